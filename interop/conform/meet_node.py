@@ -1,6 +1,7 @@
 """Has tools/conform node meet nodes: meet_node.py [--whole]. interop/check-conform-node says which."""
 import asyncio
 import os
+import random
 import re
 import socket
 import subprocess
@@ -39,6 +40,9 @@ OF_TIMES = (f"connect_wait_ms = {WAIT}\ndisconnect_wait_ms = {WAIT}\nheartbeat_m
 
 faults = []
 
+# The ports that were given to a run here.
+GIVEN = set()
+
 
 def say(words):
     faults.append(words)
@@ -46,11 +50,18 @@ def say(words):
 
 
 def free_ports(count):
-    """Ports that nobody has, each another one."""
-    held = [socket.create_server(("127.0.0.1", 0)) for _ in range(count)]
-    ports = [it.getsockname()[1] for it in held]
-    for it in held:
-        it.close()
+    """Ports that nobody has, each another one. They lie below those that the system gives to whoever dials, as many dial here at
+    once."""
+    ports = []
+    while len(ports) < count:
+        port = random.randrange(10_000, 30_000)
+        try:
+            socket.create_server(("127.0.0.1", port)).close()
+        except OSError:
+            continue
+        if port not in GIVEN:
+            GIVEN.add(port)
+            ports.append(port)
     return ports
 
 

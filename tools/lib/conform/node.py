@@ -26,14 +26,14 @@ from typing import NamedTuple
 from conform import definition, node_page, peers, report
 from conform.node_cases import CASES
 from conform.standing import PEER, Stand
-from conform.turn import NoDial, Node, Skip, Turn
+from conform.turn import NoDial, Node, NoRequest, Skip, Turn
 from message import digits_of
 
 SAME, DIFFERS, WORDS, NO_NODE = range(4)
 PORTS = "47808,47809,47810"
 PATIENCE = 3.0  # seconds for what is due
 DIALS = 45.0  # seconds within which a node dials again, where --reconnect isn't given
-GONE = 2  # cases in a row that waited in vain for the node to dial
+GONE = 2  # cases in a row in which the node didn't dial, or didn't say who it is
 LONGEST = 60  # seconds that a case may take, beside the waits that are handed in
 
 
@@ -73,6 +73,8 @@ async def played(case, asked, stand, node):
         return Result(case, str(why))
     except NoDial as why:
         turn.differ("dial", "primary", str(why))
+        node.gone += 1
+    except NoRequest:
         node.gone += 1
     except asyncio.TimeoutError:
         turn.differ("dial", "primary", f"the case didn't end within {LONGEST + waits:.0f} s")
@@ -121,11 +123,19 @@ def contexts(asked):
 async def run(asked):
     tls, asked.tls_out = contexts(asked)
     scheme = "wss" if tls else "ws"
-    stand, node = Stand(asked.host, scheme, f"{scheme}://{asked.host}:{asked.ports[2]}/"), Node()
+    stand = Stand(asked.host, scheme, f"{scheme}://{asked.host}:{asked.ports[2]}/")
     definition.program()
-    await stand.listen(asked.ports, tls)
+    try:
+        await stand.listen(asked.ports, tls)
+        return await judged(asked, stand)
+    finally:
+        await stand.leave()
+
+
+async def judged(asked, stand):
+    """Waits for the node, and plays all cases. The status."""
     print(pointing(asked, stand), flush=True)
-    primary = stand.sides["primary"]
+    primary, node = stand.sides["primary"], Node()
     link = await primary.next(asked.wait)
     if link is None:
         raise NoNode(f"{len(primary.dials)} times something dialled, and no WebSocket came of it" if primary.dials else "no node dialled")
@@ -134,9 +144,10 @@ async def run(asked):
     for case in asked.chosen:
         told.add(await played(case, asked, stand, node))
         if node.gone == GONE:
-            told.say("Bail out! the node doesn't dial any more")
+            told.say("Bail out! the node doesn't dial any more, or doesn't say who it is")
             break
-    told.say(f"# the node {digits_of(node.vmac)}, device {digits_of(node.device)}, takes {node.max_bvlc} octets and NPDUs of {node.max_npdu}")
+    if node.device:
+        told.say(f"# the node {digits_of(node.vmac)}, device {digits_of(node.device)}, takes {node.max_bvlc} octets and NPDUs of {node.max_npdu}")
     told.end()
     if asked.html:
         Path(asked.html).write_text(node_page.page(node, told.results), encoding="utf-8")

@@ -156,13 +156,22 @@ class Stand:
         self.sides = {"primary": Side(self, "primary", HUB), "failover": Side(self, "failover", HUB), "peer": Side(self, "peer", DIRECT)}
         self.host, self.scheme, self.peer_uri = host, scheme, peer_uri
         self.turn = None
+        self.servers = []
         self.of_peer = []  # links of the node to the peer, each with what came first
         self.sides["failover"].refuses = True
 
     async def listen(self, ports, tls):
         for (name, side), port in zip(self.sides.items(), ports):
-            await websockets.serve(side.serve, self.host, port, subprotocols=[side.protocol], compression=None, ping_interval=None,
-                                   max_size=None, ssl=tls, close_timeout=CLOSING, process_request=side.look)
+            server = await websockets.serve(side.serve, self.host, port, subprotocols=[side.protocol], compression=None, ping_interval=None,
+                                            max_size=None, ssl=tls, close_timeout=CLOSING, process_request=side.look)
+            self.servers.append(server)
+
+    async def leave(self):
+        """Ends all connections."""
+        for it in self.servers:
+            it.close()
+        if self.servers:
+            await asyncio.wait([asyncio.ensure_future(it.wait_closed()) for it in self.servers], timeout=2 * CLOSING)
 
     async def be_peer(self, link):
         """Accepts the node that dials the peer, at any time."""

@@ -13,13 +13,17 @@ from course import Arrow, Change, Mark
 from message import BROADCAST, Message, digits_of, name_of, number, told_of
 
 RESPONSES = (0x00, 0x03, 0x07, 0x09, 0x0B)
-QUIET = 0.4  # seconds in which nothing more is to come
+QUIET, LONG_QUIET = 0.4, 5.0  # seconds in which nothing more is to come, and for which that is waited for
 NODE = "node"
 OF_ITSELF = (NPDU, RESOLUTION, SOLICITATION, 0x04)  # what a node may send at any time
 
 
 class NoDial(Exception):
     """The node didn't dial. It says whom."""
+
+
+class NoRequest(Exception):
+    """What a node sent first doesn't say who it is. That is told as a difference."""
 
 
 class Skip(Exception):
@@ -117,8 +121,10 @@ class Turn:
         self.expected.append(Change(side, "open"))
         first = await link.next(self.patience)
         self.due(link, words="asks to connect")
-        if self.look_at_request(link, first):
-            link.request = first.octets
+        if not self.look_at_request(link, first):
+            await link.close()
+            raise NoRequest()
+        link.request = first.octets
         return link
 
     def look_at_request(self, link, first):
@@ -128,14 +134,14 @@ class Turn:
                         None, first)
             return False
         message = Message(first.octets)
-        if message.function != CONNECT_REQUEST or message.flags & 0x0C:
+        if message.id is None or message.function != CONNECT_REQUEST or message.flags & 0x0C:
             self.differ("connect-request", link.side, f"{told(first)} came in place of a Connect-Request", None, first)
             return False
         what, check, _ = verdict("hub", "request", 65535, first.octets)
         if what != "pass":
             rule = "identity" if check == "C11" else "whole"
             self.differ(rule, link.side, f"its Connect-Request fails {check}", None, first)
-        if not message.is_whole():
+        if message.missing:
             return False
         vmac, device = message.field("VMAC"), message.field("Device UUID")
         lengths = [number(message.field(f"max. {it} length")) for it in ("BVLC", "NPDU")]
@@ -193,11 +199,11 @@ class Turn:
                 return came
 
     async def quiet(self, link, seconds=QUIET):
-        """What comes until nothing more does for a while."""
-        came = []
+        """What comes until nothing more does for a while, or far too much has."""
+        came, until = [], time.monotonic() + LONG_QUIET
         while True:
             event = await link.next(seconds)
-            if event is None:
+            if event is None or time.monotonic() > until:
                 return came
             if not self.is_of_itself(link, event):
                 came.append(event)
