@@ -1,5 +1,5 @@
 -- What dialers tell.
-use Rattle.std.specs.Prelude.{◌≡◌, ℕ, List, ◌∷◌, Bool, true, false, Option, Some, None, Result, Ok, Err, ⊤}
+use Rattle.std.specs.Prelude.{◌≡◌, ℕ, List, [], ◌∷◌, true, false, Option, Some, None, Result, Ok, Err, ⊤}
 use Rattle.bsc_edge.specs.declared.dialled.Dialled.{Dialled}
 use Rattle.bsc_edge.specs.declared.fault.LinkFault.{LinkFault}
 use Rattle.bsc_edge.specs.declared.kind.Kind.{Kind}
@@ -8,6 +8,11 @@ use Rattle.bsc_edge.specs.declared.kind.Kind.{Kind}
 abbrev pub dialled : {L : Type 0} → List ℕ → Kind → Result L LinkFault → Dialled
 dialled uri kind (Ok l) = record { uri = uri; kind = kind; came = true }
 dialled uri kind (Err fault) = record { uri = uri; kind = kind; came = false }
+
+-- the link that came, where one did
+abbrev pub made_in : {L : Type 0} → Result L LinkFault → List L
+made_in (Ok l) = l ∷ []
+made_in (Err fault) = []
 
 -- What is left lost the link that came, which stood first, and nothing else.
 abbrev pub Takes : {L : Type 0} → Option (List L) → Option (List L) → Result L LinkFault → Type 0

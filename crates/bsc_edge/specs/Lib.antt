@@ -5,3 +5,6 @@ pub mod Promises
 pub mod Threads
 pub mod MemLink
 pub mod Dialling
+pub mod Saying
+pub mod Held
+pub mod Asked

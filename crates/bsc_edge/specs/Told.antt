@@ -42,6 +42,12 @@ Leaves None (Some new) arrived = ⊥
 Leaves (Some old) (Some new) (Ok (Link l)) = old ≡ l ∷ new
 Leaves (Some old) (Some new) arrived = new ≡ old
 
+-- the link that arrived, where one did
+abbrev pub arrived_in : {L : Type 0} → Result (Arrived L) LinkFault → List L
+arrived_in (Ok (Link l)) = l ∷ []
+arrived_in (Ok NoLink) = []
+arrived_in (Err fault) = []
+
 -- No link arrived within the wait.
 abbrev pub IsNoLink : {L : Type 0} → Result (Arrived L) LinkFault → Type 0
 IsNoLink (Ok NoLink) = ⊤
@@ -67,6 +73,11 @@ abbrev pub Starts : {J : Type 0} → {T : Type 0} → Option (List J) → Option
 Starts old None answer job = ⊤
 Starts None (Some new) answer job = ⊥
 Starts (Some old) (Some new) answer job = Joins old new answer job
+
+-- what is left of the job that has ended, where one has
+abbrev pub ended_in : {D : Type 0} → Option D → List D
+ended_in (Some done) = done ∷ []
+ended_in None = []
 
 module _ {J D : Type 0} (works : J → D → Type 0) where
   -- One of the jobs that were out has ended: this is what may be left of it, and the others are still out.

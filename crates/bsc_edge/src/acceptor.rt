@@ -1,7 +1,8 @@
 //! Who takes the links that peers make.
 ghost use Rattle.std.specs.Prelude.{◌≡◌, ◌≤◌, [], ◌∷◌, Some, Err, IsErr, IfOk};
+ghost use Rattle.std.specs.List.{AllByRecursion};
 ghost use Rattle.bsc_edge.specs.declared.fault.LinkFault.{LinkFault};
-ghost use Rattle.bsc_edge.specs.Told.{Grows, ToldIs, Stays, Leaves, IsNoLink};
+ghost use Rattle.bsc_edge.specs.Told.{Grows, ToldIs, Stays, Leaves, IsNoLink, arrived_in};
 ghost use Rattle.bsc_outside.specs.Faults.{HasRisen};
 
 use crate::Failed;
@@ -12,7 +13,7 @@ use std::alloc::Global;
 
 /// Takes the links that peers make.
 pub trait Acceptor<L> {
-    ghost use Rattle.std.specs.Prelude.{List, ℕ, Option};
+    ghost use Rattle.std.specs.Prelude.{List, ℕ, None, Option, ⊤};
 
     /// How many calls failed, up to the greatest `u64`.
     ghost faults: { Self → ℕ };
@@ -26,6 +27,12 @@ pub trait Acceptor<L> {
     /// The links that it has left, where they are told.
     ghost left: { Self → Option (List L) };
 
+    /// The links that came so far, in order, where they are told.
+    ghost came: { Self → Option (List L) } = { λ _. None };
+
+    /// How each link is that comes, as far as that is told.
+    ghost fresh: { L → Type 0 } = { λ _. ⊤ };
+
     /// The waits that `next` was asked for, in milliseconds, where they are told.
     ghost waits: { Self → Option (List ℕ) };
 
@@ -33,6 +40,7 @@ pub trait Acceptor<L> {
     fn bind(&mut self, port: u16, owner: Vmac) -> Result<(), Failed>
         ensures bound { IfOk result (λ _. ToldIs (bound self.new) (Some port)) }
         ensures left { Stays (left self.old) (left self.new) }
+        ensures came { Stays (came self.old) (came self.new) }
         ensures waits { Stays (waits self.old) (waits self.new) }
         ensures later { faults self.old ≤ faults self.new }
         ensures failed { IsErr result → HasRisen (faults self.old) (faults self.new) }
@@ -42,6 +50,8 @@ pub trait Acceptor<L> {
     fn next(&mut self, alloc: Global, wait_ms: u32) -> Result<Arrived<L>, LinkFault>
         ensures bound { Stays (bound self.old) (bound self.new) }
         ensures left { Leaves (left self.old) (left self.new) result }
+        ensures came { Grows (came self.old) (came self.new) (arrived_in result) }
+        ensures fresh { AllByRecursion fresh (arrived_in result) }
         ensures waits { Grows (waits self.old) (waits self.new) (wait_ms ∷ []) }
         ensures later { faults self.old ≤ faults self.new }
         ensures failed { result ≡ Err LinkFault.Failed → HasRisen (faults self.old) (faults self.new) }

@@ -1,6 +1,8 @@
 //! Where journals are begun.
-ghost use Rattle.std.specs.Prelude.{◌≡◌, ◌≤◌, Err, IfOk, option_map};
+ghost use Rattle.std.specs.Prelude.{◌≡◌, ◌≤◌, [], ◌∷◌, Err, IfOk, option_map};
 ghost use Rattle.bsc_edge.specs.declared.fault.LinkFault.{LinkFault};
+ghost use Rattle.bsc_edge.specs.Asked.{begun_by};
+ghost use Rattle.bsc_edge.specs.Told.{Grows};
 ghost use Rattle.bsc_outside.specs.Faults.{HasRisen};
 
 use crate::fault::LinkFault;
@@ -9,7 +11,8 @@ use std::alloc::Global;
 
 /// Begins journals: a sink for the lines of each caller of a hub.
 pub trait Journals<K: Sink> {
-    ghost use Rattle.std.specs.Prelude.{List, ℕ, Option};
+    ghost use Rattle.std.specs.Prelude.{List, ℕ, None, Option};
+    ghost use Rattle.bsc_edge.specs.declared.begun.Begun.{Begun};
 
     /// How many journals couldn't be begun, up to the greatest `u64`.
     ghost faults: { Self → ℕ };
@@ -17,9 +20,13 @@ pub trait Journals<K: Sink> {
     /// Whether a sink is the journal of a prefix, where there is one, and a number, as far as that is told.
     ghost begins: { Option (List ℕ) → ℕ → K → Type 0 };
 
+    /// The calls that began a journal, with their answers, where they are told.
+    ghost calls: { Self → Option (List Begun) } = { λ _. None };
+
     /// Begins the journal of the pass with a number, under a prefix. What was put into another journal isn't written
     /// over. No put into the new one has failed yet.
     fn begin(&mut self, alloc: Global, prefix: Option<&str>, number: u64) -> Result<K, LinkFault>
+        ensures told { Grows (calls self.old) (calls self.new) (begun_by (option_map (λ p. p.now) prefix.entry) number result ∷ []) }
         ensures begun { IfOk result (λ k. begins (option_map (λ p. p.now) prefix.entry) number k) }
         ensures fresh { IfOk result (λ k. K.faults k ≡ 0) }
         ensures later { faults self.old ≤ faults self.new }

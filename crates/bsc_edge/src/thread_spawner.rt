@@ -1,5 +1,5 @@
 //! A spawner of threads.
-ghost use Rattle.std.specs.Prelude.{◌≡◌, ◌≤◌, ◌<◌, [], map, vec_len, None, Result, IfSome};
+ghost use Rattle.std.specs.Prelude.{◌≡◌, ◌≤◌, ◌<◌, [], map, vec_len, Some, Result, IfSome};
 ghost use Rattle.bsc_edge.specs.Threads.{Begins};
 ghost use Rattle.bsc_edge.specs.Told.{Ends};
 
@@ -8,26 +8,32 @@ use crate::places::Places;
 use crate::spawner::Spawner;
 use crate::thread::Thread;
 use crate::unstarted::Unstarted;
+use bsc_past::Past;
 use std::alloc::Global;
 use std::sync::{Arc, Wait};
 use std::thread::Threads;
 
 /// A spawner of threads. `begin` starts a job at one of the places, as `launch` does: a trait's method can't start a
-/// thread itself, so the function that has the access to threads makes this closure.
+/// thread itself, so the function that has the access to threads makes this closure. It tells which jobs it took, and what was
+/// left of those that have ended, as it gave it back.
 #[derive(Drop)]
-pub struct ThreadSpawner<T, H, F> {
+pub struct ThreadSpawner<J: Job, T, H, F> {
     rt: H,
     begin: F,
     places: Arc<Places>,
     threads: Vec<T>,
     faults: u64,
+    jobs: Past<J>,
+    ends: Past<J::Done>,
 }
 
-impl<T, H, F> ThreadSpawner<T, H, F> {
-    pub fn new(rt: H, alloc: Global, begin: F, places: Arc<Places>) -> ThreadSpawner<T, H, F>
+impl<J: Job, T, H, F> ThreadSpawner<J, T, H, F> {
+    pub fn new(rt: H, alloc: Global, begin: F, places: Arc<Places>) -> ThreadSpawner<J, T, H, F>
         ensures begin { result.begin ≡ begin }
         ensures threads { result.threads.items ≡ [] }
         ensures faults { result.faults ≡ 0 }
+        ensures jobs { result.jobs.items ≡ [] }
+        ensures ends { result.ends.items ≡ [] }
     {
         ThreadSpawner {
             rt,
@@ -35,6 +41,8 @@ impl<T, H, F> ThreadSpawner<T, H, F> {
             places,
             threads: Vec::new(alloc),
             faults: 0,
+            jobs: Past::new(),
+            ends: Past::new(),
         }
     }
 }
@@ -72,12 +80,14 @@ impl<
     T: Thread<J>,
     H: Threads + Drop,
     F: Drop + Fn(Global, &Arc<Places>, J) -> Result<T, Unstarted<J>>,
-> Spawner<J> for ThreadSpawner<T, H, F> {
+> Spawner<J> for ThreadSpawner<J, T, H, F> {
     ghost can_start = { λ s. F.IsAlwaysCallable s.begin × ((a : _) (p : _) (j : J) (r : _) → F.post s.begin a p j r → Begins T.job r j) };
 
     ghost faults = { λ s. s.faults };
 
-    ghost jobs = { λ _. None };
+    ghost jobs = { λ s. Some s.jobs.items };
+
+    ghost ends = { λ s. Some s.ends.items };
 
     ghost out = { λ s. map T.job s.threads.items };
 
@@ -85,9 +95,11 @@ impl<
         if self.threads.reserve(1).is_err() {
             return Err(Unstarted::NoMemory(job));
         }
+        let jobs = self.jobs.with(&job);
         match (self.begin)(alloc, &self.places, job) {
             Ok(thread) => {
                 self.threads.push_reserved(thread);
+                self.jobs = jobs;
                 Ok(())
             }
             Err(Unstarted::Failed(job)) => {
@@ -103,7 +115,11 @@ impl<
             return None;
         }
         match first_ended(&self.threads) {
-            Some(at) => Some(give(rt, &self.rt, &self.places, &mut self.threads, at)),
+            Some(at) => {
+                let done = give(rt, &self.rt, &self.places, &mut self.threads, at);
+                self.ends.add(&done);
+                Some(done)
+            }
             None => None,
         }
     }
@@ -114,6 +130,8 @@ impl<
         }
         self.places.wait(rt);
         let at = first_ended(&self.threads).unwrap_or(0);
-        Some(give(rt, &self.rt, &self.places, &mut self.threads, at))
+        let done = give(rt, &self.rt, &self.places, &mut self.threads, at);
+        self.ends.add(&done);
+        Some(done)
     }
 }

@@ -1,5 +1,5 @@
 //! Links in memory of their own.
-ghost use Rattle.std.specs.Prelude.{◌≡◌, IfErr};
+ghost use Rattle.std.specs.Prelude.{◌≡◌, IfErr, IfOk};
 ghost use Rattle.bsc_edge.specs.declared.fault.LinkFault.{LinkFault};
 
 use bsc_edge::{Incoming, Link, LinkFault};
@@ -15,6 +15,7 @@ pub struct BoxedLink<L> {
 impl<L: Drop> BoxedLink<L> {
     /// This link, in memory of its own. Fails where there is none.
     pub(crate) fn new(alloc: Global, link: L) -> Result<BoxedLink<L>, LinkFault>
+        ensures link { IfOk result (λ l. l.link.value ≡ link) }
         ensures cause { IfErr result (λ fault. fault ≡ LinkFault.NoMemory) }
     {
         match Box::new(alloc, link) {
@@ -30,6 +31,8 @@ impl<L: Link> Link for BoxedLink<L> {
     ghost quiets = { λ l. L.quiets l.link.value };
 
     ghost talk = { λ l. L.talk l.link.value };
+
+    ghost notices = { λ l. L.notices l.link.value };
 
     fn receive(&mut self, alloc: Global, wait_ms: u32) -> Result<Incoming, LinkFault> {
         self.link.as_mut().receive(alloc, wait_ms)

@@ -1,8 +1,8 @@
 //! A dialer of links in memory of their own.
-ghost use Rattle.std.specs.Prelude.{None};
+ghost use Rattle.std.specs.Prelude.{◌≡◌, [], None, Some};
 
 use crate::boxed_link::BoxedLink;
-use bsc_edge::{Dialer, Kind, LinkFault};
+use bsc_edge::{Dialer, Kind, Link, LinkFault, ToldLink};
 use std::alloc::Global;
 
 /// A dialer over another, each of whose links has memory of its own. It tells nothing of its calls: a link for which there is no
@@ -19,14 +19,22 @@ impl<D> BoxingDialer<D> {
     }
 }
 
-impl<L: Drop, D: Dialer<L>> Dialer<BoxedLink<L>> for BoxingDialer<D> {
+impl<L: Link + Drop, D: Dialer<L>> Dialer<BoxedLink<ToldLink<L>>> for BoxingDialer<D> {
     ghost faults = { λ d. D.faults d.dialer };
 
     ghost calls = { λ _. None };
 
     ghost left = { λ _. None };
 
-    fn dial(&mut self, alloc: Global, uri: &[u8], kind: Kind) -> Result<BoxedLink<L>, LinkFault> {
-        BoxedLink::new(alloc, self.dialer.dial(alloc, uri, kind)?)
+    // Nothing was said on a link that comes.
+    ghost fresh = { λ l. (⟦<ToldLink<L> as Link>⟧.talk l.link.value ≡ Some []) × (⟦<ToldLink<L> as Link>⟧.notices l.link.value ≡ Some []) };
+
+    fn dial(
+        &mut self,
+        alloc: Global,
+        uri: &[u8],
+        kind: Kind,
+    ) -> Result<BoxedLink<ToldLink<L>>, LinkFault> {
+        BoxedLink::new(alloc, ToldLink::new(self.dialer.dial(alloc, uri, kind)?))
     }
 }

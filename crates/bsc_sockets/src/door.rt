@@ -1,14 +1,17 @@
 //! The real acceptor, and what an operator is told of it.
-ghost use Rattle.std.specs.Prelude.{◌≡◌, ◌≤◌, None};
+ghost use Rattle.std.specs.Prelude.{◌≡◌, ◌≤◌, [], None, Some};
+ghost use Rattle.std.specs.List.{AllByRecursion};
+ghost use Rattle.bsc_edge.specs.Told.{arrived_in};
 
 use crate::boxed_link::BoxedLink;
 use crate::links::RealLink;
 use crate::waiting::Shared;
-use bsc_edge::{Acceptor, Arrived, Failed, Kind, LinkFault};
+use bsc_edge::{Acceptor, Arrived, Failed, Kind, Link, LinkFault, ToldLink};
 use bsc_gate::Gate;
 use bsc_live::Bells;
 use bsc_log::{LoggedAcceptor, Logging, logging_of};
 use bsc_octets::Vmac;
+use bsc_past::Past;
 use std::alloc::Global;
 use std::env::Env;
 use std::io::{self, Eprint, Stderr};
@@ -21,7 +24,8 @@ use std::time::Clock;
 const PLACES: usize = 256;
 
 /// A gate that is made where it is bound, and tells on standard error what is behind it; with a log, where it has somewhere to write
-/// one and the environment asks for it.
+/// one and the environment asks for it. It tells contracts to which port it is bound, how long it was asked to wait, and which links
+/// came.
 #[derive(Drop)]
 pub struct Door<R: Clock + Net + Wait + Eprint + Copy + Drop> {
     rt: R,
@@ -33,10 +37,17 @@ pub struct Door<R: Clock + Net + Wait + Eprint + Copy + Drop> {
     gate: Option<LoggedAcceptor<Gate<R>, R>>,
     faults: u64,
     quiets: u64,
+    bound: Option<u16>,
+    waits: Past<u32>,
+    came: Past<RealLink<R>>,
 }
 
 impl<R: Clock + Net + Wait + Eprint + Copy + Drop> Door<R> {
-    pub fn new(rt: R, alloc: Global, kind: Kind, shared: Shared) -> Door<R> {
+    pub fn new(rt: R, alloc: Global, kind: Kind, shared: Shared) -> Door<R>
+        ensures bound { result.bound ≡ None }
+        ensures waits { result.waits.items ≡ [] }
+        ensures came { result.came.items ≡ [] }
+    {
         Door {
             rt,
             alloc,
@@ -46,11 +57,16 @@ impl<R: Clock + Net + Wait + Eprint + Copy + Drop> Door<R> {
             gate: None,
             faults: 0,
             quiets: 0,
+            bound: None,
+            waits: Past::new(),
+            came: Past::new(),
         }
     }
 
     /// The same door, with a log there, where the environment asks for one.
-    pub fn logged_at(self, stderr: Stderr) -> Door<R> {
+    pub fn logged_at(self, stderr: Stderr) -> Door<R>
+        ensures { result ≡ record self { stderr = Some stderr } }
+    {
         let mut door = self;
         door.stderr = Some(stderr);
         door
@@ -122,12 +138,16 @@ fn tell_open<R: Eprint>(rt: &R, kind: Kind, port: u16, owner: Vmac) {
 }
 
 /// What an acceptor answered, with its link in memory of its own.
-fn boxed<L: Drop>(
+fn boxed<L: Link + Drop>(
     alloc: Global,
     answer: Result<Arrived<L>, LinkFault>,
-) -> Result<Arrived<BoxedLink<L>>, LinkFault> {
+) -> Result<Arrived<BoxedLink<ToldLink<L>>>, LinkFault>
+    ensures fresh { AllByRecursion (λ l. (⟦<BoxedLink<ToldLink<L>> as Link>⟧.talk l ≡ Some []) × (⟦<BoxedLink<ToldLink<L>> as Link>⟧.notices l ≡ Some [])) (arrived_in result) }
+{
     match answer {
-        Ok(Arrived::Link(link)) => Ok(Arrived::Link(BoxedLink::new(alloc, link)?)),
+        Ok(Arrived::Link(link)) => {
+            Ok(Arrived::Link(BoxedLink::new(alloc, ToldLink::new(link))?))
+        }
         Ok(Arrived::Quiet) => Ok(Arrived::Quiet),
         Err(fault) => Err(fault),
     }
@@ -139,11 +159,16 @@ impl<R: Clock + Net + Wait + Eprint + Env + RandomSource + Copy + Drop> Acceptor
 
     ghost quiets = { λ d. d.quiets };
 
-    ghost bound = { λ _. None };
+    ghost bound = { λ d. Some d.bound };
 
     ghost left = { λ _. None };
 
-    ghost waits = { λ _. None };
+    ghost came = { λ d. Some d.came.items };
+
+    ghost waits = { λ d. Some d.waits.items };
+
+    // Nothing was said on a link that comes.
+    ghost fresh = { λ l. (⟦<RealLink<R> as Link>⟧.talk l ≡ Some []) × (⟦<RealLink<R> as Link>⟧.notices l ≡ Some []) };
 
     fn bind(&mut self, port: u16, owner: Vmac) -> Result<(), Failed> {
         match open(self.rt, self.alloc, self.kind, port, owner, &self.shared) {
@@ -151,6 +176,7 @@ impl<R: Clock + Net + Wait + Eprint + Env + RandomSource + Copy + Drop> Acceptor
                 tell_open(&self.rt, self.kind, port, owner);
                 let logging = logging_at(self.rt, self.stderr, self.alloc, self.kind);
                 self.gate = Some(LoggedAcceptor::new(gate, logging));
+                self.bound = Some(port);
                 Ok(())
             }
             Err(_) => {
@@ -165,7 +191,9 @@ impl<R: Clock + Net + Wait + Eprint + Env + RandomSource + Copy + Drop> Acceptor
             Some(gate) => boxed(alloc, gate.next(alloc, wait_ms)),
             None => Err(LinkFault::Failed),
         };
+        self.waits.add(&wait_ms);
         match &answer {
+            Ok(Arrived::Link(link)) => self.came.add(link),
             Ok(Arrived::Quiet) => self.quiets = self.quiets.saturating_add(1),
             Err(LinkFault::Failed) => self.faults = self.faults.saturating_add(1),
             _ => {}

@@ -2,22 +2,29 @@
 use crate::boxed_link::BoxedLink;
 use crate::boxing_dialer::BoxingDialer;
 use crate::waiting::Shared;
+use bsc_edge::{ToldDialer, ToldLink};
 use bsc_gate::{SocketLink, SocketOpener};
 use bsc_live::Bells;
 use bsc_log::{LoggedLink, UnloggedDialer};
 use bsc_octets::NoMemory;
 use bsc_ws::StreamDialer;
 use std::alloc::Global;
-use std::sync::Arc;
+use std::net::Net;
+use std::sync::{Arc, Wait};
+use std::time::Clock;
 
-/// A link of the program: over a socket, dialled or accepted, in memory of its own. A log may be told of one that was accepted.
-pub type RealLink<R> = BoxedLink<LoggedLink<SocketLink<R>, R>>;
+/// A link of the program: over a socket, dialled or accepted, in memory of its own. It tells its talk to contracts, and a log may be
+/// told of one that was accepted.
+pub type RealLink<R> = BoxedLink<ToldLink<LoggedLink<SocketLink<R>, R>>>;
 
-/// The dialer of the program's links.
-pub type RealDialer<R> = BoxingDialer<UnloggedDialer<StreamDialer<SocketOpener<R>>>>;
+/// The dialer of the program's links. It tells its calls to contracts, and which links came.
+pub type RealDialer<R> = ToldDialer<
+    BoxingDialer<UnloggedDialer<StreamDialer<SocketOpener<R>>>>,
+    RealLink<R>,
+>;
 
 /// The dialer of links over sockets, which share this.
-pub fn real_dialer<R: Drop>(
+pub fn real_dialer<R: Clock + Net + Wait + Copy + Drop>(
     rt: R,
     alloc: Global,
     shared: Shared,
@@ -29,5 +36,5 @@ pub fn real_dialer<R: Drop>(
         Some(watch) => opener.watched_by(watch),
         None => opener,
     });
-    Ok(BoxingDialer::new(UnloggedDialer::new(dialer)))
+    Ok(ToldDialer::new(BoxingDialer::new(UnloggedDialer::new(dialer))))
 }

@@ -1,8 +1,9 @@
 //! What the program waits by between the turns of a node.
-ghost use Rattle.std.specs.Prelude.{None};
+ghost use Rattle.std.specs.Prelude.{◌≡◌, [], IfOk, Some};
 
 use bsc_edge::{Kind, Waiter};
 use bsc_live::{Lingering, Watch, Watcher};
+use bsc_past::Past;
 use std::alloc::Global;
 use std::io::{self, ErrorKind};
 use std::net::Net;
@@ -35,11 +36,14 @@ fn again(lingering: &Arc<Lingering>) -> io::Result<Arc<Lingering>> {
 pub struct RealWaiter<R> {
     watcher: Option<Watcher<R>>,
     lingering: Arc<Lingering>,
+    waits: Past<u32>,
 }
 
 impl<R: Clock + Net + Wait + Drop> RealWaiter<R> {
     /// What a program waits by that takes links of this kind.
-    pub fn of(rt: R, alloc: Global, kind: Kind) -> io::Result<RealWaiter<R>> {
+    pub fn of(rt: R, alloc: Global, kind: Kind) -> io::Result<RealWaiter<R>>
+        ensures { IfOk result (λ w. w.waits.items ≡ []) }
+    {
         let Ok(lingering) = Lingering::new(alloc) else {
             return Err(io::Error::from(ErrorKind::OutOfMemory));
         };
@@ -48,7 +52,11 @@ impl<R: Clock + Net + Wait + Drop> RealWaiter<R> {
             Kind::Direct => { Some(Watcher::new(rt, alloc, SEATS)?.looks_at(again(&lingering)?)) }
             Kind::Hub => None,
         };
-        Ok(RealWaiter { watcher, lingering })
+        Ok(RealWaiter {
+            watcher,
+            lingering,
+            waits: Past::new(),
+        })
     }
 
     /// What the links of the program and its gate share.
@@ -70,11 +78,12 @@ impl<R: Clock + Net + Wait + Drop> RealWaiter<R> {
 }
 
 impl<R: Clock + Wait> Waiter for RealWaiter<R> {
-    ghost waits = { λ _. None };
+    ghost waits = { λ w. Some w.waits.items };
 
     fn wait(&mut self, most_ms: u32) {
         if let Some(watcher) = &mut self.watcher {
             watcher.wait(most_ms);
         }
+        self.waits.add(&most_ms);
     }
 }

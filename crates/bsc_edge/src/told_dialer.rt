@@ -1,0 +1,91 @@
+//! A dialer that tells its calls and the links that came.
+ghost use Rattle.std.specs.Prelude.{◌≡◌, [], ◌∷◌, Some};
+ghost use Rattle.bsc_edge.specs.Dialling.{dialled, made_in};
+
+use crate::dialer::Dialer;
+use crate::dialled::Dialled;
+use crate::fault::LinkFault;
+use crate::kind::Kind;
+use bsc_past::{Happened, Past};
+use std::alloc::Global;
+
+/// A call of a dialer with its answer, each where it lies.
+struct Dialling<'a, L> {
+    uri: &'a [u8],
+    kind: Kind,
+    answer: &'a Result<L, LinkFault>,
+}
+
+impl<L> Drop for Dialling<'_, L> {
+    fn drop(self) {
+        let Dialling {
+            uri: _,
+            kind: _,
+            answer: _,
+        } = self;
+    }
+}
+
+impl<L> Happened<Dialled> for Dialling<'_, L> {
+    ghost happened = { λ d. dialled d.uri.now d.kind d.answer.now ∷ [] };
+}
+
+/// What a dialer answered, where it lies.
+struct Making<'a, L>(&'a Result<L, LinkFault>);
+
+impl<L> Drop for Making<'_, L> {
+    fn drop(self) {
+        let Making(_) = self;
+    }
+}
+
+impl<L> Happened<L> for Making<'_, L> {
+    ghost happened = { λ m. made_in m.0.now };
+}
+
+/// A dialer over another, whose calls it tells to contracts: what it was asked for, whether a link came, and which. It takes no
+/// memory of its own, and does nothing more than the dialer under it.
+#[derive(Drop)]
+pub struct ToldDialer<D, L> {
+    dialer: D,
+    calls: Past<Dialled>,
+    came: Past<L>,
+}
+
+impl<D, L> ToldDialer<D, L> {
+    /// A dialer over this one. Nothing was dialled yet.
+    pub fn new(dialer: D) -> ToldDialer<D, L>
+        ensures dialer { result.dialer ≡ dialer }
+        ensures calls { result.calls.items ≡ [] }
+        ensures came { result.came.items ≡ [] }
+    {
+        ToldDialer {
+            dialer,
+            calls: Past::new(),
+            came: Past::new(),
+        }
+    }
+}
+
+impl<L, D: Dialer<L>> Dialer<L> for ToldDialer<D, L> {
+    ghost faults = { λ d. D.faults d.dialer };
+
+    ghost calls = { λ d. Some d.calls.items };
+
+    ghost fresh = { D.fresh };
+
+    ghost came = { λ d. Some d.came.items };
+
+    ghost left = { λ d. D.left d.dialer };
+
+    fn dial(&mut self, alloc: Global, uri: &[u8], kind: Kind) -> Result<L, LinkFault> {
+        let answer = self.dialer.dial(alloc, uri, kind);
+        self.calls.note(&Dialling {
+            uri,
+            kind,
+            answer: &answer,
+        });
+        self.came.note(&Making(&answer));
+        answer
+    }
+}
