@@ -17,6 +17,7 @@ mod job;
 mod job_parts;
 mod job_terms;
 mod judging;
+mod last;
 mod laws;
 mod limits;
 mod member;
@@ -40,7 +41,10 @@ pub use hub_side::HubSide;
 pub use job::SessionJob;
 pub use job_parts::JobParts;
 pub use job_terms::JobTerms;
-pub use laws::{causes_are_exact, sessions_end_at_fault};
+pub use last::Last;
+pub use laws::{
+    causes_are_exact, notices_are_the_sessions, sessions_end_at_fault, wakes_whom_it_concerns,
+};
 pub use limits::SessionLimits;
 pub use serving::{serve_connection, serve_guarded, serve_recorded};
 pub use session_end::SessionEnd;

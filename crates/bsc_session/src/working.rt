@@ -1,6 +1,7 @@
 //! What the job of a session does.
 use crate::hub_side::HubSide;
 use crate::job::SessionJob;
+use crate::last::Last;
 use crate::serving::{serve_connection, serve_guarded, serve_recorded};
 use crate::session_end::SessionEnd;
 use bsc_edge::{Clock, Job, Link};
@@ -12,11 +13,11 @@ use std::sync::Wait;
 impl<L: Link + Drop, C: Clock + Drop, N: Sink + Drop> Job for SessionJob<L, C, N> {
     ghost use Rattle.bsc_session.specs.Jobs.{Worked};
 
-    type Done = SessionEnd;
+    type Done = SessionEnd<L, C, N>;
 
-    ghost works = { Worked L.talk L.faults C.readings N.held N.faults };
+    ghost works = { Worked L.talk L.faults L.notices C.readings N.held N.faults };
 
-    fn work<R: Wait>(self, rt: &R) -> SessionEnd {
+    fn work<R: Wait>(self, rt: &R) -> SessionEnd<L, C, N> {
         let SessionJob {
             alloc,
             hub,
@@ -44,13 +45,25 @@ impl<L: Link + Drop, C: Clock + Drop, N: Sink + Drop> Job for SessionJob<L, C, N
         if let Some(policy) = &policy {
             let guard: &Policy = policy;
             let ended = serve_guarded(side, &mut pass, &mut link, &mut clock, &mut journal, guard);
-            return SessionEnd { pass, ended };
+            return SessionEnd {
+                pass,
+                ended,
+                last: Last::of(link, clock, journal),
+            };
         }
         if is_recorded {
             let ended = serve_recorded(side, &mut pass, &mut link, &mut clock, &mut journal);
-            return SessionEnd { pass, ended };
+            return SessionEnd {
+                pass,
+                ended,
+                last: Last::of(link, clock, journal),
+            };
         }
         let ended = serve_connection(side, &mut pass, &mut link, &mut clock);
-        SessionEnd { pass, ended }
+        SessionEnd {
+            pass,
+            ended,
+            last: Last::of(link, clock, journal),
+        }
     }
 }
