@@ -27,14 +27,14 @@ loses_from None (Some m) (Some n) xs s t = absurd s
 loses_from (Some l) (Some m) (Some n) xs s t = sym s ∙ t
 
 module _ {L C N : Type 0} (tells : HubTelling L C N) where
-  pub bound_so : (asked : HubTerms) (k : HubCourse) (titled held' : Option (List ℕ)) (before after : HubWorld L C N) (links : Option (List L))
+  pub bound_so : (asked : HubTerms) (k : HubCourse) (titled held' : Option (List ℕ)) (before after : HubWorld L C N) (links came : Option (List L))
       (waits : Option (List ℕ)) (told : Option (Option ℕ)) (s : ℕ) (end : ServeEnd) (terms : ServeTerms) (port : ℕ)
       → terms ≡ terms_by asked.settings asked.sessions → port ≡ asked.settings.port → ToldIs told (Some port) → Stays told after.port
-      → Stays before.links links → Stays before.waits waits
-      → Serving tells.works tells.begins (all_terms terms asked.prefix asked.policy) (served_world k.hub titled (record (with_pass k.first before) { links = links; waits = waits })) (served_world k.hub held' (with_pass k.last after)) end
+      → Stays before.links links → Stays before.came came → Stays before.waits waits
+      → Serving tells.works tells.begins (all_terms terms asked.prefix asked.policy) (served_world k.hub titled (record (with_pass k.first before) { links = links; came = came; waits = waits })) (served_world k.hub held' (with_pass k.last after)) end
       → SaysEnd end s before.written after.written → Bound tells k asked titled held' before after s
-  bound_so asked k titled held' before after links waits told s end terms port same same_port bound stays left asks serving says =
-      let first : ServeWorld L C N = record (with_pass k.first before) { links = links; waits = waits } in
+  bound_so asked k titled held' before after links came waits told s end terms port same same_port bound stays left arrived asks serving says =
+      let first : ServeWorld L C N = record (with_pass k.first before) { links = links; came = came; waits = waits } in
       let b : Serving tells.works tells.begins (terms_of asked) (served_world k.hub titled first) (served_world k.hub held' (with_pass k.last after)) end =
       subst (λ (t : ServeTerms). Serving tells.works tells.begins (all_terms t asked.prefix asked.policy) (served_world k.hub titled first) (served_world k.hub held' (with_pass k.last after)) end) same serving in
       record {
@@ -45,10 +45,13 @@ module _ {L C N : Type 0} (tells : HubTelling L C N) where
           cut = b.cut;
           still = b.still;
           stop = b.stop;
+          at_stop = b.at_stop;
+          late = b.late;
           lost = b.lost;
           cut_last = b.cut_last;
           hub = b.hub;
           left = loses_from before.links links after.links _ left b.left;
+          came = grows_from before.came came after.came _ arrived b.came;
           within = b.within;
           asks = b.asks;
           asked = grows_from before.waits waits after.waits _ asks b.asked;
@@ -56,9 +59,17 @@ module _ {L C N : Type 0} (tells : HubTelling L C N) where
           fates = b.fates;
           returned = b.returned;
           out = b.out;
+          late_out = b.late_out;
+          only_ends = b.only_ends;
           gathered = b.gathered;
+          earlier = b.earlier;
+          one_each = b.one_each;
+          given_back = b.given_back;
           went = b.went;
+          joined = b.joined;
+          same = b.same;
           stopped = b.stopped;
+          drew = b.drew;
           stop_last = b.stop_last;
           records = b.records;
           has_line = b.has_line;
@@ -108,10 +119,12 @@ module _ {L C N : Type 0} (tells : HubTelling L C N) (k : HubCourse) (asked : Hu
     part = u.part;
     untouched = record {
       links = u.untouched.links;
+      came = u.untouched.came;
       waits = u.untouched.waits;
       port = u.untouched.port;
       faults = u.untouched.faults;
       jobs = u.untouched.jobs;
+      given_back = u.untouched.given_back;
       out = u.untouched.out;
       unstarted = u.untouched.unstarted;
     };
@@ -123,8 +136,10 @@ module _ {L C N : Type 0} (tells : HubTelling L C N) (k : HubCourse) (asked : Hu
   unbound_since b = record {
     pass = b.pass;
     links = b.links;
+    came = b.came;
     waits = b.waits;
     jobs = b.jobs;
+    given_back = b.given_back;
     out = b.out;
     unstarted = b.unstarted;
     failed = b.failed;

@@ -10,7 +10,7 @@ use Rattle.bsc_history.specs.declared.counts.Counts.{Counts}
 use Rattle.bsc_history.specs.declared.told.AlreadyStopped.{AlreadyStopped}
 use Rattle.bsc_history.specs.declared.told.Told.{Told}
 use Rattle.bsc_turn.specs.declared.pass.Pass.{Pass}
-use Rattle.bsc_turn.specs.Passes.{ended_callers, number_of, own_list, seen}
+use Rattle.bsc_turn.specs.Passes.{drawn_list, ended_callers, number_of, own_list, seen}
 use Rattle.bsc_hub.specs.declared.hub.Hub.{Hub}
 use Rattle.bsc_hub.specs.Calls.{stop_made}
 use Rattle.bsc_hub.specs.Passing.{IsCaller, Passed, about_of}
@@ -51,16 +51,18 @@ session_limits v = record { times = times_of v }
 abbrev pub terms_by : HubSettings → Option ℕ → ServeTerms
 terms_by v sessions = record { limits = session_limits v; turns = v.turns; sessions = sessions }
 
--- What there is outside the command at a moment, each as far as it is told: the links that the acceptor has left, the waits
--- that it was asked for, the port that it is bound to, and its count of faults; the jobs that the spawner has taken, those of
--- them that are out, and its count of jobs that weren't started; the count of journals that couldn't be begun; and what was
--- written.
+-- What there is outside the command at a moment, each as far as it is told: the links that the acceptor has left, those that
+-- came so far, the waits that it was asked for, the port that it is bound to, and its count of faults; the jobs that the spawner
+-- has taken, what is left of those that it gave back, those of them that are out, and its count of jobs that weren't started; the
+-- count of journals that couldn't be begun; and what was written.
 pub record HubWorld (L C N : Type 0) : Type 0 where
   pub links : Option (List L)
+  pub came : Option (List L)
   pub waits : Option (List ℕ)
   pub port : Option (Option ℕ)
   pub faults : ℕ
   pub jobs : Option (List (SessionJob L C N))
+  pub given_back : Option (List (SessionEnd L C N))
   pub out : List (SessionJob L C N)
   pub unstarted : ℕ
   pub unbegun : ℕ
@@ -70,6 +72,8 @@ pub record HubWorld (L C N : Type 0) : Type 0 where
 pub record Door (L : Type 0) : Type 0 where
   -- the links that it has left
   pub links : Option (List L)
+  -- those that came so far
+  pub came : Option (List L)
   -- the waits that it was asked for
   pub waits : Option (List ℕ)
   -- the port that it is bound to
@@ -79,23 +83,25 @@ pub record Door (L : Type 0) : Type 0 where
 
 module _ {A L : Type 0} where
   -- The same of an acceptor, by what tells it.
-  abbrev pub door_by : (A → Option (List L)) → (A → Option (List ℕ)) → (A → Option (Option ℕ)) → (A → ℕ) → A → Door L
-  door_by links waits port faults a = record { links = links a; waits = waits a; port = port a; faults = faults a }
+  abbrev pub door_by : (A → Option (List L)) → (A → Option (List L)) → (A → Option (List ℕ)) → (A → Option (Option ℕ)) → (A → ℕ) → A → Door L
+  door_by links came waits port faults a = record { links = links a; came = came a; waits = waits a; port = port a; faults = faults a }
 
 module _ {P L C N : Type 0} where
   -- What is seen of a spawner, by what tells it.
-  abbrev pub stock_by : (P → Option (List (SessionJob L C N))) → (P → List (SessionJob L C N)) → (P → ℕ) → P → Stock L C N
-  stock_by jobs out unstarted p = record { jobs = jobs p; out = out p; unstarted = unstarted p }
+  abbrev pub stock_by : (P → Option (List (SessionJob L C N))) → (P → Option (List (SessionEnd L C N))) → (P → List (SessionJob L C N)) → (P → ℕ) → P → Stock L C N
+  stock_by jobs given_back out unstarted p = record { jobs = jobs p; given_back = given_back p; out = out p; unstarted = unstarted p }
 
 module _ {A C P J L N : Type 0} where
   -- The same of the parts that a hub is served by, as these tell it, and of what was written.
   abbrev pub world_by : (A → Door L) → (P → Stock L C N) → (J → ℕ) → ServingParts A C P J → Option (List ℕ) → HubWorld L C N
   world_by door stock unbegun parts written = record {
     links = (door parts.acceptor).links;
+    came = (door parts.acceptor).came;
     waits = (door parts.acceptor).waits;
     port = (door parts.acceptor).port;
     faults = (door parts.acceptor).faults;
     jobs = (stock parts.spawner).jobs;
+    given_back = (stock parts.spawner).given_back;
     out = (stock parts.spawner).out;
     unstarted = (stock parts.spawner).unstarted;
     unbegun = unbegun parts.journals;
@@ -105,7 +111,7 @@ module _ {A C P J L N : Type 0} where
 -- What the jobs of sessions and the journals tell of themselves.
 pub record HubTelling (L C N : Type 0) : Type 1 where
   -- what may be left of a job
-  pub works : SessionJob L C N → SessionEnd → Type 0
+  pub works : SessionJob L C N → SessionEnd L C N → Type 0
   -- whether a sink is the journal of a prefix and of a pass's number
   pub begins : Option (List ℕ) → ℕ → N → Type 0
   -- the octets that a journal holds, as far as it tells them
@@ -114,7 +120,7 @@ pub record HubTelling (L C N : Type 0) : Type 1 where
   pub unput : N → ℕ
 
 module _ {L C N : Type 0} where
-  abbrev pub telling : (SessionJob L C N → SessionEnd → Type 0) → (Option (List ℕ) → ℕ → N → Type 0) → (N → Option (List ℕ)) → (N → ℕ)
+  abbrev pub telling : (SessionJob L C N → SessionEnd L C N → Type 0) → (Option (List ℕ) → ℕ → N → Type 0) → (N → Option (List ℕ)) → (N → ℕ)
       → HubTelling L C N
   telling works begins held unput = record { works = works; begins = begins; held = held; unput = unput }
 
@@ -157,15 +163,26 @@ StopsAlone k =
 module _ {L C N : Type 0} where
   -- what serving a hub sees of it, beside the hub's own pass
   abbrev pub with_pass : Pass → HubWorld L C N → ServeWorld L C N
-  with_pass p w = record { pass = p; links = w.links; waits = w.waits; jobs = w.jobs; out = w.out; unstarted = w.unstarted }
+  with_pass p w = record {
+    pass = p;
+    links = w.links;
+    came = w.came;
+    waits = w.waits;
+    jobs = w.jobs;
+    given_back = w.given_back;
+    out = w.out;
+    unstarted = w.unstarted;
+  }
 
   -- Nothing was asked of the acceptor and the spawner.
   pub record Untouched (before after : HubWorld L C N) : Type 0 where
     pub links : after.links ≡ before.links
+    pub came : after.came ≡ before.came
     pub waits : after.waits ≡ before.waits
     pub port : after.port ≡ before.port
     pub faults : after.faults ≡ before.faults
     pub jobs : after.jobs ≡ before.jobs
+    pub given_back : after.given_back ≡ before.given_back
     pub out : after.out ≡ before.out
     pub unstarted : after.unstarted ≡ before.unstarted
 
@@ -186,8 +203,10 @@ module _ {L C N : Type 0} where
   pub record NotBound (k : HubCourse) (before after : HubWorld L C N) (s : ℕ) : Type 0 where
     pub pass : k.last ≡ k.first
     pub links : Stays before.links after.links
+    pub came : Stays before.came after.came
     pub waits : Stays before.waits after.waits
     pub jobs : after.jobs ≡ before.jobs
+    pub given_back : after.given_back ≡ before.given_back
     pub out : after.out ≡ before.out
     pub unstarted : after.unstarted ≡ before.unstarted
     pub failed : HasRisen before.faults after.faults
@@ -227,8 +246,8 @@ module _ {L C N : Type 0} (tells : HubTelling L C N) where
     pub keeps : kept ≡ Some own
     pub went : Titling k asked begun own before after s
 
-  -- A hub of the settings was made, and it and its pass, number 0 at first, with nothing seen, are kept in the place; its own
-  -- journal couldn't be begun, or it was begun and is kept there too, and this is what became of both.
+  -- A hub of the settings was made, and it and its pass, number 0 at first, with nothing seen and no number drawn, are kept in the
+  -- place; its own journal couldn't be begun, or it was begun and is kept there too, and this is what became of both.
   pub record HubRuns (asked : HubTerms) (place : HubPlace N) (before after : HubWorld L C N) (s : ℕ) : Type 0 where
     pub hub : Arc Hub Global
     pub first : Pass
@@ -236,7 +255,7 @@ module _ {L C N : Type 0} (tells : HubTelling L C N) where
     pub made : place.kept.hub ≡ Some hub
     pub keeps : place.kept.pass ≡ Some last
     pub caller : IsCaller (arc_value hub) first
-    pub new : (number_of first ≡ 0) × (seen first ≡ []) × (own_list first ≡ []) × (ended_callers first ≡ [])
+    pub new : (number_of first ≡ 0) × (seen first ≡ []) × (own_list first ≡ []) × (ended_callers first ≡ []) × (drawn_list first ≡ [])
     pub about : about_of (arc_value hub) ≡ record { hub = identity_of asked.settings; limits = limits_of asked.settings }
     -- who audits its own journal reads the first line as this hub;
     pub said : IsHubLine (hub_text (about_of (arc_value hub))) (about_of (arc_value hub))

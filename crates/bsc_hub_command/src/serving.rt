@@ -4,7 +4,7 @@ ghost use Rattle.std.specs.Io.KnownBytes.{Appends};
 ghost use Rattle.std.specs.Arc.{arc_value};
 ghost use Rattle.bsc_outside.specs.Faults.{HasRisen, PutsPrefix};
 ghost use Rattle.bsc_edge.specs.declared.fault.LinkFault.{LinkFault};
-ghost use Rattle.bsc_turn.specs.Passes.{ended_callers, number_of, own_list, seen};
+ghost use Rattle.bsc_turn.specs.Passes.{drawn_list, ended_callers, number_of, own_list, seen};
 ghost use Rattle.bsc_hub.specs.Passing.{IsCaller, about_of};
 ghost use Rattle.bsc_player.specs.Faults.{RisesIf};
 ghost use Rattle.bsc_player.specs.LastLines.{RanOut, SaysOrRunsOut};
@@ -105,7 +105,7 @@ fn about_by(settings: &HubSettings) -> About
 fn make_hub(alloc: Global, settings: &HubSettings) -> Result<(Arc<Hub>, Pass), NoMemory>
     ensures pass { IfOk result (λ (hub, pass). IsCaller (arc_value hub) pass) }
     ensures new { IfOk result (λ (_, pass). (number_of pass ≡ 0) × (seen pass ≡ []) × (own_list pass ≡ [])
-        × (ended_callers pass ≡ [])) }
+        × (ended_callers pass ≡ []) × (drawn_list pass ≡ [])) }
     ensures about { IfOk result (λ (hub, _). about_of (arc_value hub)
         ≡ record { hub = identity_of settings.now; limits = limits_of settings.now }) }
     ensures said { IfOk result (λ (hub, _). IsHubLine (hub_text (about_of (arc_value hub))) (about_of (arc_value hub))) }
@@ -162,15 +162,15 @@ fn serve_hub<
     requires can { P.can_start parts.old.spawner }
     requires pass { IsCaller (arc_value made.hub.now) pass.old }
     ensures went { (NotBound (record { hub = arc_value made.entry.hub.now; first = pass.old; last = pass.new })
-        (world_by (door_by A.left A.waits A.bound A.faults) (stock_by P.jobs P.out P.faults) J.faults parts.old (K.held sink.old))
-        (world_by (door_by A.left A.waits A.bound A.faults) (stock_by P.jobs P.out P.faults) J.faults parts.new (K.held sink.new)) result
+        (world_by (door_by A.left A.came A.waits A.bound A.faults) (stock_by P.jobs P.ends P.out P.faults) J.faults parts.old (K.held sink.old))
+        (world_by (door_by A.left A.came A.waits A.bound A.faults) (stock_by P.jobs P.ends P.out P.faults) J.faults parts.new (K.held sink.new)) result
         × (N.held own.new ≡ N.held own.old))
-        ⊎ Bound (telling (Worked L.talk L.faults C.readings N.held N.faults) J.begins N.held N.faults)
+        ⊎ Bound (telling (Worked L.talk L.faults L.notices C.readings N.held N.faults) J.begins N.held N.faults)
         (record { hub = arc_value made.entry.hub.now; first = pass.old; last = pass.new })
         (terms_in asked.entry)
         (N.held own.old) (N.held own.new)
-        (world_by (door_by A.left A.waits A.bound A.faults) (stock_by P.jobs P.out P.faults) J.faults parts.old (K.held sink.old))
-        (world_by (door_by A.left A.waits A.bound A.faults) (stock_by P.jobs P.out P.faults) J.faults parts.new (K.held sink.new)) result }
+        (world_by (door_by A.left A.came A.waits A.bound A.faults) (stock_by P.jobs P.ends P.out P.faults) J.faults parts.old (K.held sink.old))
+        (world_by (door_by A.left A.came A.waits A.bound A.faults) (stock_by P.jobs P.ends P.out P.faults) J.faults parts.new (K.held sink.new)) result }
     ensures write { result ≡ 4 → HasRisen (K.faults sink.old) (K.faults sink.new)
         ⊎ HasRisen (J.faults parts.old.journals) (J.faults parts.new.journals)
         ⊎ HasRisen (N.faults own.old) (N.faults own.new) }
@@ -222,12 +222,12 @@ fn serve_titled<
     requires pass { IsCaller (arc_value made.hub.now) pass.old }
     requires about { about_of (arc_value made.hub.now)
         ≡ record { hub = identity_of asked.settings.now; limits = limits_of asked.settings.now } }
-    ensures went { Titling (telling (Worked L.talk L.faults C.readings N.held N.faults) J.begins N.held N.faults)
+    ensures went { Titling (telling (Worked L.talk L.faults L.notices C.readings N.held N.faults) J.begins N.held N.faults)
         (record { hub = arc_value made.entry.hub.now; first = pass.old; last = pass.new })
         (terms_in asked.entry)
         own.old own.new
-        (world_by (door_by A.left A.waits A.bound A.faults) (stock_by P.jobs P.out P.faults) J.faults parts.old (K.held sink.old))
-        (world_by (door_by A.left A.waits A.bound A.faults) (stock_by P.jobs P.out P.faults) J.faults parts.new (K.held sink.new)) result }
+        (world_by (door_by A.left A.came A.waits A.bound A.faults) (stock_by P.jobs P.ends P.out P.faults) J.faults parts.old (K.held sink.old))
+        (world_by (door_by A.left A.came A.waits A.bound A.faults) (stock_by P.jobs P.ends P.out P.faults) J.faults parts.new (K.held sink.new)) result }
     ensures write { result ≡ 4 → HasRisen (K.faults sink.old) (K.faults sink.new)
         ⊎ HasRisen (J.faults parts.old.journals) (J.faults parts.new.journals)
         ⊎ HasRisen (N.faults own.old) (N.faults own.new) }
@@ -271,14 +271,14 @@ fn serve_begun<
         ≡ record { hub = identity_of asked.settings.now; limits = limits_of asked.settings.now } }
     requires own { own.old ≡ None }
     ensures went { Unbegun (record { hub = arc_value made.entry.hub.now; first = pass.old; last = pass.new }) own.new
-        (world_by (door_by A.left A.waits A.bound A.faults) (stock_by P.jobs P.out P.faults) J.faults parts.old (K.held sink.old))
-        (world_by (door_by A.left A.waits A.bound A.faults) (stock_by P.jobs P.out P.faults) J.faults parts.new (K.held sink.new)) result
-        ⊎ Begun (telling (Worked L.talk L.faults C.readings N.held N.faults) J.begins N.held N.faults)
+        (world_by (door_by A.left A.came A.waits A.bound A.faults) (stock_by P.jobs P.ends P.out P.faults) J.faults parts.old (K.held sink.old))
+        (world_by (door_by A.left A.came A.waits A.bound A.faults) (stock_by P.jobs P.ends P.out P.faults) J.faults parts.new (K.held sink.new)) result
+        ⊎ Begun (telling (Worked L.talk L.faults L.notices C.readings N.held N.faults) J.begins N.held N.faults)
         (record { hub = arc_value made.entry.hub.now; first = pass.old; last = pass.new })
         (terms_in asked.entry)
         own.new
-        (world_by (door_by A.left A.waits A.bound A.faults) (stock_by P.jobs P.out P.faults) J.faults parts.old (K.held sink.old))
-        (world_by (door_by A.left A.waits A.bound A.faults) (stock_by P.jobs P.out P.faults) J.faults parts.new (K.held sink.new)) result }
+        (world_by (door_by A.left A.came A.waits A.bound A.faults) (stock_by P.jobs P.ends P.out P.faults) J.faults parts.old (K.held sink.old))
+        (world_by (door_by A.left A.came A.waits A.bound A.faults) (stock_by P.jobs P.ends P.out P.faults) J.faults parts.new (K.held sink.new)) result }
     ensures write { result ≡ 4 → HasRisen (K.faults sink.old) (K.faults sink.new)
         ⊎ HasRisen (J.faults parts.old.journals) (J.faults parts.new.journals) ⊎ HasFailed N.faults own.new }
     ensures link { RisesIf result 6 (A.faults parts.old.acceptor) (A.faults parts.new.acceptor) }
@@ -328,10 +328,10 @@ pub fn serve<
 
     // Once a hub is made, it, its pass and its journal are kept, and this is what became of it.
     ensures runs { (hub : _) → place.new.kept.hub ≡ Some hub →
-        HubRuns (telling (Worked L.talk L.faults C.readings N.held N.faults) J.begins N.held N.faults)
+        HubRuns (telling (Worked L.talk L.faults L.notices C.readings N.held N.faults) J.begins N.held N.faults)
         (terms_in asked.entry) place.new
-        (world_by (door_by A.left A.waits A.bound A.faults) (stock_by P.jobs P.out P.faults) J.faults parts.old (K.held sink.old))
-        (world_by (door_by A.left A.waits A.bound A.faults) (stock_by P.jobs P.out P.faults) J.faults parts.new (K.held sink.new)) result }
+        (world_by (door_by A.left A.came A.waits A.bound A.faults) (stock_by P.jobs P.ends P.out P.faults) J.faults parts.old (K.held sink.old))
+        (world_by (door_by A.left A.came A.waits A.bound A.faults) (stock_by P.jobs P.ends P.out P.faults) J.faults parts.new (K.held sink.new)) result }
 
     // Where none is made there was no memory, and nothing was touched but the sink.
     ensures unmade { place.new.kept.hub ≡ None → RanOut result (K.held sink.old) (K.held sink.new) }

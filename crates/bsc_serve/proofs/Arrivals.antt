@@ -1,5 +1,5 @@
 -- Lists of what happened, and of what is told, with one more.
-use Rattle.std.proofs.Common.{inl, inr, ◌≡◌, ℕ, ◌+◌, ◌≤◌, List, [], ◌∷◌, ◌++◌, length, Option, Some, None, Ok, Err, refl, ap, sym, ◌∙◌, subst, arith, append_assoc}
+use Rattle.std.proofs.Common.{inl, inr, ◌≡◌, ℕ, ◌+◌, ◌≤◌, List, [], ◌∷◌, ◌++◌, length, Option, Some, None, Ok, Err, refl, ap, sym, ◌∙◌, subst, arith, append-nil, append_assoc}
 use Rattle.std.specs.Prelude.{replicate}
 use Rattle.std.proofs.lemmas.List.{replicate_more}
 use Rattle.bsc_turn.specs.declared.pass.Pass.{Pass}
@@ -12,12 +12,12 @@ use Rattle.bsc_hub.proofs.Following.{starts_then}
 use Rattle.bsc_edge.specs.declared.arrived.Arrived.{Arrived}
 use Rattle.bsc_edge.specs.declared.arrived.Arrived.TheVariants.{Link, Quiet}
 use Rattle.bsc_edge.specs.declared.fault.LinkFault.{LinkFault}
-use Rattle.bsc_edge.specs.Told.{Grows, Leaves, Stays}
+use Rattle.bsc_edge.specs.Told.{Grows, Leaves, Stays, arrived_in}
 use Rattle.bsc_edge.proofs.Common.{grows_then}
 use Rattle.bsc_session.specs.declared.job.SessionJob.{SessionJob}
 use Rattle.bsc_session.specs.declared.session_end.SessionEnd.{SessionEnd}
 use Rattle.bsc_serve.specs.declared.bounds.TheConstants.{WAIT_MS}
-use Rattle.bsc_serve.specs.Events.{AreFates, Event, OutAfter, arrived, callers_of, ended, jobs_of, links_of, returned_of, unstarted_of}
+use Rattle.bsc_serve.specs.Events.{AreFates, Event, OutAfter, arrived, callers_of, ended, ends_of, jobs_of, links_of, numbers_in, numbers_of, returned_of, unstarted_of}
 use Rattle.bsc_serve.specs.Fates.{Fate, IsFate, IsSplitIn, caller_in, job_in, returned, spent, started, unstarted_in}
 use Rattle.bsc_serve.specs.Inner.{AllEnded, limit_of}
 use Rattle.bsc_serve.specs.Serving.{Loses, RoseBy}
@@ -34,6 +34,11 @@ module _ {L C N : Type 0} where
   links-append (arrived l f ∷ more) last = ap (λ (k : List L). l ∷ k) (links-append more last)
   links-append (ended j d ∷ more) last = links-append more last
 
+  pub ends-append : (more last : List (Event L C N)) → ends_of (more ++ last) ≡ ends_of more ++ ends_of last
+  ends-append [] last = refl
+  ends-append (arrived l f ∷ more) last = ends-append more last
+  ends-append (ended j d ∷ more) last = ap (λ (k : List (SessionEnd L C N)). d ∷ k) (ends-append more last)
+
   pub jobs-append : (more last : List (Event L C N)) → jobs_of (more ++ last) ≡ jobs_of more ++ jobs_of last
   jobs-append [] last = refl
   jobs-append (arrived l f ∷ more) last = ap (λ (k : List (SessionJob L C N)). job_in f ++ k) (jobs-append more last) ∙ sym (append_assoc (job_in f) (jobs_of more) (jobs_of last))
@@ -43,6 +48,11 @@ module _ {L C N : Type 0} where
   callers-append [] last = refl
   callers-append (arrived l f ∷ more) last = ap (λ (k : List EndedCaller). caller_in f ++ k) (callers-append more last) ∙ sym (append_assoc (caller_in f) (callers_of more) (callers_of last))
   callers-append (ended j d ∷ more) last = ap (λ (k : List EndedCaller). ended_of (view_of d.pass) ∷ k) (callers-append more last)
+
+  pub numbers-append : (more last : List (Event L C N)) → numbers_of (more ++ last) ≡ numbers_of more ++ numbers_of last
+  numbers-append [] last = refl
+  numbers-append (arrived l f ∷ more) last = ap (λ (k : List ℕ). numbers_in f ++ k) (numbers-append more last) ∙ sym (append_assoc (numbers_in f) (numbers_of more) (numbers_of last))
+  numbers-append (ended j d ∷ more) last = numbers-append more last
 
   pub returned-append : (more last : List (Event L C N)) → returned_of (more ++ last) ≡ returned_of more + returned_of last
   returned-append [] last = omega arith
@@ -65,7 +75,7 @@ module _ {L C N : Type 0} where
   all_ended_then h (arrived l f ∷ more) last a b = all_ended_then h more last a b
   all_ended_then h (ended j d ∷ more) last a b = (a.0, all_ended_then h more last a.1 b)
 
-module _ {L C N : Type 0} (works : SessionJob L C N → SessionEnd → Type 0) where
+module _ {L C N : Type 0} (works : SessionJob L C N → SessionEnd L C N → Type 0) where
   pub out_then : (out mid still : List (SessionJob L C N)) (more last : List (Event L C N)) → OutAfter works out more mid → OutAfter works mid last still → OutAfter works out (more ++ last) still
   out_then out mid still [] last a b = subst (λ (o : List (SessionJob L C N)). OutAfter works o last still) a b
   out_then out mid still (arrived l f ∷ more) last a b = out_then (out ++ job_in f) mid still more last a b
@@ -77,6 +87,12 @@ module _ {A : Type 0} where
   grows_still old None (Some n) xs a b = absurd b
   grows_still None (Some m) (Some n) xs a b = absurd a
   grows_still (Some o) (Some m) (Some n) xs a b = b ∙ a
+
+  pub grows_no_more : (old mid new : Option (List A)) (xs : List A) → Grows old mid xs → Grows mid new [] → Grows old new xs
+  grows_no_more old mid new xs a b = subst (λ (ys : List A). Grows old new ys) (append-nil xs) (grows_then old mid new xs [] a b)
+
+  pub came_link : (mid new : Option (List A)) (u : Arrived A) (x : A) → u ≡ Link x → Grows mid new (arrived_in (Ok u)) → Grows mid new (x ∷ [])
+  came_link mid new u x is grew = subst (λ w. Grows mid new (arrived_in (Ok w))) is grew
 
   pub loses_none : (old : Option (List A)) → Loses old old []
   loses_none None = tt

@@ -1,23 +1,31 @@
 -- The end of serving.
-use Rattle.std.proofs.Common.{inl, inr, ◌≡◌, ℕ, ◌+◌, ◌≤◌, List, [], ◌++◌, length, take, true, false, Option, Some, None, Ok, Err, refl, ap, sym, ◌∙◌, subst, arith, append-nil}
-use Rattle.std.specs.Prelude.{Result, ◌<◌, ◌^◌, ◌⊎◌, ◌≢◌}
+use Rattle.std.proofs.Common.{inl, inr, ◌≡◌, ℕ, ◌+◌, ◌≤◌, List, [], ◌∷◌, ◌++◌, length, take, Bool, true, false, cond, Option, Some, None, Ok, Err, refl, ap, sym, ◌∙◌, subst, arith, append-nil, append_assoc, length-append}
+use Rattle.std.specs.Prelude.{Result, ◌<◌, ◌^◌, ◌⊎◌, ◌≢◌, position}
+use Rattle.std.specs.List.{position_from}
 use Rattle.std.proofs.lemmas.Bool.{false_from_ne_true}
+use Rattle.std.proofs.lemmas.List.{map-append}
+use Rattle.std.proofs.lemmas.Iterator.Adapters.{position_from-zero}
 use Rattle.bsc_history.specs.declared.counts.Counts.{Counts}
 use Rattle.bsc_history.specs.declared.told.AlreadyStopped.{AlreadyStopped}
 use Rattle.bsc_history.specs.declared.told.Told.{Told}
+use Rattle.bsc_history.specs.declared.entry.Entry.{Entry}
+use Rattle.bsc_history.specs.declared.mark.Stamped.{Stamped}
+use Rattle.bsc_history.specs.Entries.{stops}
 use Rattle.bsc_history.specs.Marks.{entries}
+use Rattle.bsc_history.specs.Counting.{counts}
 use Rattle.bsc_history.specs.Replies.{is_stopped}
 use Rattle.bsc_turn.specs.declared.pass.Pass.{Pass}
 use Rattle.bsc_turn.specs.declared.view.Ended.{Ended as EndedCaller}
-use Rattle.bsc_turn.specs.Passes.{number_of, seen}
+use Rattle.bsc_turn.specs.Histories.{StartsWith}
+use Rattle.bsc_turn.specs.Passes.{drawn_list, number_of, seen}
 use Rattle.bsc_hub.specs.declared.hub.Hub.{Hub}
 use Rattle.bsc_hub.specs.Calls.{stop_made}
 use Rattle.bsc_hub.specs.Passing.{Placed, Went}
-use Rattle.bsc_hub.proofs.Following.{went_then}
+use Rattle.bsc_hub.proofs.Following.{drew_no_number, passed_none, starts_then, went_then}
 use Rattle.bsc_edge.specs.declared.fault.LinkFault.{LinkFault}
 use Rattle.bsc_edge.specs.declared.fault.LinkFault.TheVariants.{Failed, NoMemory as NoRoom}
-use Rattle.bsc_edge.specs.Told.{Stays}
-use Rattle.bsc_edge.proofs.Common.{grows_from}
+use Rattle.bsc_edge.specs.Told.{Grows, Stays}
+use Rattle.bsc_edge.proofs.Common.{grows_from, grows_then}
 use Rattle.bsc_notes.specs.Notes.{HasLine, Records}
 use Rattle.bsc_serve.specs.declared.end.ServeEnd.{ServeEnd}
 use Rattle.bsc_serve.specs.declared.end.ServeEnd.TheVariants.{Done, StoppedBefore, AcceptFault, JournalFault, NoMemory}
@@ -26,13 +34,13 @@ use Rattle.bsc_serve.specs.declared.halt.Halt.TheVariants.{AcceptFault as HaltFa
 use Rattle.bsc_session.specs.declared.job.SessionJob.{SessionJob}
 use Rattle.bsc_session.specs.declared.session_end.SessionEnd.{SessionEnd}
 use Rattle.bsc_serve.specs.Terms.{Terms}
-use Rattle.bsc_serve.specs.Events.{Event, OutAfter, callers_of, jobs_of, links_of, returned_of, unstarted_of}
-use Rattle.bsc_serve.specs.Inner.{CutAt, Halted, Stopped, Taken, fault_halt, halt_end, whole_end, world_of}
+use Rattle.bsc_serve.specs.Events.{Event, OutAfter, callers_of, ends_of, jobs_of, links_of, numbers_of, returned_of, unstarted_of}
+use Rattle.bsc_serve.specs.Inner.{CutAt, GaveBack, Halted, Stopped, Taken, TakesIn, fault_halt, halt_end, stock_of, whole_end, world_of}
 use Rattle.bsc_serve.specs.Serving.{Cut, CutBy, EndsSo, IsWithin, JournalFailed, Loses, RoseBy, Serving, StopAnswers, cut_callers, cut_links, stop_notes}
 use Rattle.bsc_serve.specs.Tallies.{CountsUp, Remains}
 use Rattle.bsc_serve.specs.Worlds.{ServeWorld, Stock, served_world}
 use Rattle.bsc_serve.proofs.Arrivals.{SpentStays, fates_later, few_unstarted, grows_still, rose_later}
-use Rattle.bsc_serve.proofs.Sessions.{stop_stands}
+use Rattle.bsc_serve.proofs.Sessions.{found_still, stop_stands}
 
 -- calls that made no entry, and the stop of the hub after them
 stops_so : (h : Hub) (p m q : Pass) (drew : ℕ) (took : List EndedCaller) (r : Result (Told Counts) AlreadyStopped)
@@ -50,6 +58,28 @@ stop_answers h m q (Ok t) s = (
   false_from_ne_true (is_stopped (take t.at (entries (seen q)))) (λ e. (let k : false ≡ true = s.refused.1 e in cc)),
 )
 stop_answers h m q (Err e) s = s.place
+
+-- the first place that passes stays it, where the list goes on
+place_on : (test : Entry → Bool) (i : ℕ) (xs ys : List Entry) (k : ℕ) → position_from test i xs ≡ Some k → position_from test i (xs ++ ys) ≡ Some k
+place_on test i [] ys k e = absurd (let bad : None ≡ Some k = e in cc)
+place_on test i (x ∷ xs) ys k e = by (test x) (λ is. place_on test (i + 1) xs ys k is) e
+  where
+    by : (b : Bool) → (position_from test (i + 1) xs ≡ Some k → position_from test (i + 1) (xs ++ ys) ≡ Some k) → cond b (Some i) (position_from test (i + 1) xs) ≡ Some k
+        → cond b (Some i) (position_from test (i + 1) (xs ++ ys)) ≡ Some k
+    by true later is = is
+    by false later is = later is
+
+-- what the stop answered is so by what the pass has seen later
+answers_later : (h : Hub) (p v q : Pass) (drew : ℕ) (took : List EndedCaller) (r : Result (Told Counts) AlreadyStopped) → Went h p drew took (stop_made (number_of p) r) v
+    → StartsWith (seen q) (seen v) → StopAnswers v r → StopAnswers q r
+answers_later h p v q drew took (Ok t) w more s =
+    let k = found_still h p v q drew took t w more in
+    let same : take t.at (entries (seen v)) ≡ take t.at (entries (seen q)) = k.4 ∙ sym k.3 in
+    subst (λ (H : List Entry). (t.said ≡ counts H) × (is_stopped H ≡ false)) same s
+answers_later h p v q drew took (Err e) w more s =
+    let all : entries (seen q) ≡ entries (seen v) ++ entries more.0 = ap entries more.1 ∙ map-append (λ (x : Stamped). x.entry) (seen v) more.0 in
+    ap (λ (H : List Entry). position stops H) all ∙ (position_from-zero stops (entries (seen v) ++ entries more.0)
+    ∙ place_on stops 0 (entries (seen v)) (entries more.0) e.at (sym (position_from-zero stops (entries (seen v))) ∙ s))
 
 stays_stopped : (h : Hub) (m q : Pass) (r : Result (Told Counts) AlreadyStopped) → Stopped h m q r → SpentStays h m q
 stays_stopped h m q r s e = s.loaded ∙ e
@@ -149,13 +179,13 @@ rose_from : (n a b c : ℕ) → a ≤ b → RoseBy n b c → RoseBy n a c
 rose_from n a b c later (inl x) = inl (omega (arith, later, x))
 rose_from n a b c later (inr x) = inr x
 
-module _ {L C N : Type 0} (works : SessionJob L C N → SessionEnd → Type 0) (begins : Option (List ℕ) → ℕ → N → Type 0) where
+module _ {L C N : Type 0} (works : SessionJob L C N → SessionEnd L C N → Type 0) (begins : Option (List ℕ) → ℕ → N → Type 0) where
   -- all arrived, all sessions ended and were taken in, and the hub was stopped
   pub serves_whole : (h : Hub) (terms : Terms) (w m : ServeWorld L C N) (q : Pass) (u : ℕ) (r : Result (Told Counts) AlreadyStopped)
-      (lost : Option LinkFault) (held held' : Option (List ℕ)) → ((s : ℕ) → terms.sessions ≡ Some s → s < 2 ^ 64) → Taken works begins h terms w m (record { remaining = Some 0; unstarted = u })
+      (lost : Option LinkFault) (held held' : Option (List ℕ)) → ((s : ℕ) → terms.sessions ≡ Some s → s < 2 ^ 64) → w.out ≡ [] → Taken works begins h terms w m (record { remaining = Some 0; unstarted = u })
       → m.out ≡ [] → Stopped h m.pass q r → Records held held' (stop_notes (number_of m.pass) r) lost
       → HasLine (stop_notes (number_of m.pass) r) lost → Serving works begins terms (served_world h held w) (served_world h held' (record m { pass = q })) (whole_end u r lost)
-  serves_whole h terms w m q u r lost held held' fits t none s noted line =
+  serves_whole h terms w m q u r lost held held' fits none_before t none s noted line =
       let n = length (links_of t.events) in
       let all : n ≡ n + 0 = omega arith in
       let few = few_unstarted t.events in
@@ -172,10 +202,13 @@ module _ {L C N : Type 0} (works : SessionJob L C N → SessionEnd → Type 0) (
         cut = None;
         still = [];
         stop = r;
+        at_stop = q;
+        late = [];
         lost = lost;
         cut_last = tt;
         hub = refl;
         left = subst (λ xs. Loses w.links m.links xs) (sym (append-nil (links_of t.events))) t.left;
+        came = subst (λ xs. Grows w.came m.came xs) (sym (append-nil (links_of t.events))) t.came;
         within = within_whole terms.sessions n t.remains;
         asks = t.asks;
         asked = t.asked;
@@ -183,61 +216,84 @@ module _ {L C N : Type 0} (works : SessionJob L C N → SessionEnd → Type 0) (
         fates = fates_later begins h terms w.pass m.pass q t.events s.passed.grows (stays_stopped h m.pass q r s) t.fates;
         returned = t.returned;
         out = subst (λ (o : List (SessionJob L C N)). OutAfter works [] t.events o) none t.out;
+        late_out = refl;
+        only_ends = refl;
         gathered = none;
+        earlier = [];
+        one_each = sym (ap (λ (o : List (SessionJob L C N)). length o) none_before);
+        given_back = subst (λ xs. Grows w.given_back m.given_back xs) (sym (append-nil (ends_of t.events))) t.given_back;
         went = went;
+        joined = passed_none h q s.passed.caller;
+        same = λ e. refl;
         stopped = stop_answers h m.pass q r s;
-        stop_last = stop_stands h w.pass q (n + 0) t.events [] r went t.all_ended;
+        drew = drew_no_number h m.pass q [] (stop_made (number_of m.pass) r) s.passed ∙ (t.drew ∙ ap (λ (k : List ℕ). drawn_list w.pass ++ k) (sym (append-nil (numbers_of t.events))));
+        stop_last = stop_stands h w.pass q q (n + 0) t.events [] [] r went (passed_none h q s.passed.caller) t.all_ended;
         records = subst (λ k. Records held held' (stop_notes k r) lost) t.went.number noted;
         has_line = subst (λ k. HasLine (stop_notes k r) lost) t.went.number line;
         ends = ends_whole terms.sessions t.events u r lost came (counted_so u (unstarted_of t.events) t.counted under);
       }
 
-  -- the loop halted, the hub was stopped, and the sessions ended
-  pub serves_halted : (h : Hub) (terms : Terms) (w m : ServeWorld L C N) (q : Pass) (s : Stock L C N) (halt : Halt)
-      (r : Result (Told Counts) AlreadyStopped) (lost : Option LinkFault) (held held' : Option (List ℕ)) → Halted works begins h terms w m halt → Stays m.jobs s.jobs → s.out ≡ []
-      → m.unstarted ≤ s.unstarted → Stopped h m.pass q r → Records held held' (stop_notes (number_of m.pass) r) lost
-      → HasLine (stop_notes (number_of m.pass) r) lost → Serving works begins terms (served_world h held w) (served_world h held' (world_of q s m.links m.waits)) (halt_end halt lost)
-  serves_halted h terms w m q s halt r lost held held' t stays none later stopped noted line =
+  -- the loop halted, the hub was stopped, and the sessions ended and were taken in
+  pub serves_halted : (h : Hub) (terms : Terms) (w m : ServeWorld L C N) (v q : Pass) (s : Stock L C N) (halt : Halt)
+      (r : Result (Told Counts) AlreadyStopped) (lost : Option LinkFault) (held held' : Option (List ℕ)) → w.out ≡ [] → Halted works begins h terms w m halt → Stopped h m.pass v r
+      → TakesIn works h v (stock_of m) q s → s.out ≡ [] → Records held held' (stop_notes (number_of m.pass) r) lost
+      → HasLine (stop_notes (number_of m.pass) r) lost → Serving works begins terms (served_world h held w) (served_world h held' (world_of q s m.links m.came m.waits)) (halt_end halt lost)
+  serves_halted h terms w m v q s halt r lost held held' none_before t stopped x none noted line =
       let n = length (links_of t.events) + length (cut_links t.cut) in
       let took : List EndedCaller = callers_of t.events ++ cut_callers t.cut in
-      let went : Went h w.pass n took (stop_made (number_of w.pass) r) q = stops_so h w.pass m.pass q n took r t.went stopped in
+      let went : Went h w.pass n took (stop_made (number_of w.pass) r) v = stops_so h w.pass m.pass v n took r t.went stopped in
       record {
         events = t.events;
         cut = t.cut;
         still = m.out;
         stop = r;
+        at_stop = v;
+        late = x.late;
         lost = lost;
         cut_last = cut_by t.cut halt lost t.cut_last;
         hub = refl;
         left = t.left;
+        came = t.came;
         within = t.within;
         asks = t.asks;
         asked = t.asked;
-        jobs = grows_still w.jobs m.jobs s.jobs (jobs_of t.events) t.jobs stays;
-        fates = fates_later begins h terms w.pass m.pass q t.events stopped.passed.grows (stays_stopped h m.pass q r stopped) t.fates;
-        returned = rose_later (returned_of t.events) w.unstarted m.unstarted s.unstarted t.returned later;
+        jobs = grows_still w.jobs m.jobs s.jobs (jobs_of t.events) t.jobs x.jobs;
+        fates = fates_later begins h terms w.pass m.pass q t.events (starts_then (seen m.pass) (seen v) (seen q) stopped.passed.grows x.went.grows)
+            (λ e. x.loaded ∙ stays_stopped h m.pass v r stopped e) t.fates;
+        returned = rose_later (returned_of t.events) w.unstarted m.unstarted s.unstarted t.returned x.later;
         out = t.out;
+        late_out = subst (λ (o : List (SessionJob L C N)). OutAfter works m.out x.late o) none x.out;
+        only_ends = x.none;
         gathered = none;
+        earlier = [];
+        one_each = sym (ap (λ (o : List (SessionJob L C N)). length o) none_before);
+        given_back = grows_then w.given_back m.given_back s.given_back (ends_of t.events) (ends_of x.late) t.given_back x.given_back;
         went = went;
-        stopped = stop_answers h m.pass q r stopped;
-        stop_last = stop_stands h w.pass q n t.events (cut_callers t.cut) r went t.all_ended;
+        joined = x.went;
+        same = x.same;
+        stopped = answers_later h w.pass v q n took r went x.went.grows (stop_answers h m.pass v r stopped);
+        drew = drew_no_number h v q (callers_of x.late) None x.went ∙ (drew_no_number h m.pass v [] (stop_made (number_of m.pass) r) stopped.passed ∙ t.drew);
+        stop_last = stop_stands h w.pass v q n t.events (cut_callers t.cut) (callers_of x.late) r went x.went t.all_ended;
         records = subst (λ k. Records held held' (stop_notes k r) lost) t.went.number noted;
         has_line = subst (λ k. HasLine (stop_notes k r) lost) t.went.number line;
         ends = ends_halted terms.sessions t.events t.cut m.out r lost halt t.cut_last;
       }
 
   -- what the spawner had out before was awaited at first
-  pub serves_after : (h : Hub) (terms : Terms) (w v : ServeWorld L C N) (s : Stock L C N) (held held' : Option (List ℕ)) (end : ServeEnd) → Stays w.jobs s.jobs
-      → w.unstarted ≤ s.unstarted → Serving works begins terms (served_world h held (world_of w.pass s w.links w.waits)) (served_world h held' v) end → Serving works begins terms (served_world h held w) (served_world h held' v) end
-  serves_after h terms w v s held held' end stays later t = record {
+  pub serves_after : (h : Hub) (terms : Terms) (w v : ServeWorld L C N) (s : Stock L C N) (held held' : Option (List ℕ)) (end : ServeEnd) → Stays w.jobs s.jobs → GaveBack w.out s.out w.given_back s.given_back
+      → w.unstarted ≤ s.unstarted → Serving works begins terms (served_world h held (world_of w.pass s w.links w.came w.waits)) (served_world h held' v) end → Serving works begins terms (served_world h held w) (served_world h held' v) end
+  serves_after h terms w v s held held' end stays gave later t = record {
     events = t.events;
     cut = t.cut;
     still = t.still;
     stop = t.stop;
+    at_stop = t.at_stop;
+    late = t.late;
     lost = t.lost;
     cut_last = t.cut_last;
     hub = t.hub;
     left = t.left;
+    came = t.came;
     within = t.within;
     asks = t.asks;
     asked = t.asked;
@@ -245,9 +301,18 @@ module _ {L C N : Type 0} (works : SessionJob L C N → SessionEnd → Type 0) (
     fates = t.fates;
     returned = rose_from (returned_of t.events) w.unstarted s.unstarted v.unstarted later t.returned;
     out = t.out;
+    late_out = t.late_out;
+    only_ends = t.only_ends;
     gathered = t.gathered;
+    earlier = gave.ends ++ t.earlier;
+    one_each = (let a = length-append gave.ends t.earlier in let b = gave.one_each in let c = t.one_each in omega (arith, a, b, c));
+    given_back = subst (λ xs. Grows w.given_back v.given_back xs) (sym (append_assoc gave.ends t.earlier (ends_of t.events ++ ends_of t.late)))
+        (grows_then w.given_back s.given_back v.given_back gave.ends (t.earlier ++ (ends_of t.events ++ ends_of t.late)) gave.given_back t.given_back);
     went = t.went;
+    joined = t.joined;
+    same = t.same;
     stopped = t.stopped;
+    drew = t.drew;
     stop_last = t.stop_last;
     records = t.records;
     has_line = t.has_line;

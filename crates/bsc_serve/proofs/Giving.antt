@@ -1,5 +1,5 @@
 -- A link gets its session, or doesn't.
-use Rattle.std.proofs.Common.{inl, inr, ◌≡◌, ℕ, List, [], ◌∷◌, Bool, true, false, None, Ok, Err, refl, sym, ◌∙◌, subst, arith, append-nil}
+use Rattle.std.proofs.Common.{inl, inr, ◌≡◌, ℕ, List, [], ◌∷◌, Bool, true, false, None, Ok, Err, refl, sym, ◌∙◌, subst, arith, append-nil, ap, ◌++◌}
 use Rattle.std.specs.Prelude.{Result, ◌<◌, Option, Some, is_some, option_map}
 use Rattle.std.specs.Arc.{arc_value}
 use Rattle.bsc_outside.specs.Faults.{HasRisen}
@@ -8,16 +8,16 @@ use Rattle.bsc_turn.specs.declared.pass.Pass.{Pass}
 use Rattle.bsc_turn.specs.declared.view.Ended.{Ended as EndedCaller}
 use Rattle.bsc_turn.specs.Effects.{ended_of}
 use Rattle.bsc_turn.specs.Histories.{StartsWith}
-use Rattle.bsc_turn.specs.Passes.{newest_number, number_of, seen, view_of}
+use Rattle.bsc_turn.specs.Passes.{drawn_list, ended_callers, newest_number, number_of, seen, view_of}
 use Rattle.bsc_turn.proofs.Beginnings.{starts_self}
 use Rattle.bsc_hub.specs.declared.hub.Hub.{Hub}
 use Rattle.bsc_hub.specs.Passing.{Went}
-use Rattle.bsc_hub.proofs.Following.{went_then}
+use Rattle.bsc_hub.proofs.Following.{drew_no_number, went_then}
 use Rattle.bsc_edge.specs.declared.fault.LinkFault.{LinkFault}
 use Rattle.bsc_edge.specs.declared.unstarted.Unstarted.{Unstarted}
 use Rattle.bsc_edge.specs.declared.unstarted.Unstarted.TheVariants.{Failed, NoMemory as NoRoom}
 use Rattle.bsc_edge.specs.Told.{ComesBack}
-use Rattle.bsc_edge.proofs.Common.{grows_none}
+use Rattle.bsc_edge.proofs.Common.{grows_none, stays_same}
 use Rattle.bsc_serve.specs.Terms.{Terms}
 use Rattle.bsc_session.specs.declared.job.SessionJob.{SessionJob}
 use Rattle.bsc_session.specs.Jobs.{policy_of}
@@ -62,6 +62,13 @@ back h p m q x s t =
     went_then h p m q 1 0 [] (ended_of (view_of x) ∷ []) None s.went
     (subst (λ (l : List EndedCaller). Went h m 0 (ended_of (view_of x) ∷ l) None q) s.ended t.0)
 
+-- the number drawn is that of the pass that was split off, and of its caller; to take the pass back draws none
+drew_caller : (h : Hub) (p m x : Pass) → SplitsOff h p m x → drawn_list m ≡ drawn_list p ++ (view_of x).number ∷ []
+drew_caller h p m x s = s.drew ∙ ap (λ (n : ℕ). drawn_list p ++ n ∷ []) (sym s.caller.0.1.1.2)
+
+drew_back : (h : Hub) (p m q x : Pass) → SplitsOff h p m x → TakesBack h m q x → drawn_list q ≡ drawn_list p ++ (view_of x).number ∷ []
+drew_back h p m q x s t = drew_no_number h m q (ended_of (view_of x) ∷ ended_callers x) None t.0 ∙ drew_caller h p m x s
+
 module _ {L C N : Type 0} where
   -- its job couldn't be made
   pub fares_unmade : (h : Hub) (p m q x : Pass) (s : Stock L C N) → SplitsOff h p m x → TakesBack h m q x → LacksRoom h p q s s
@@ -69,9 +76,11 @@ module _ {L C N : Type 0} where
     caller = ended_of (view_of x);
     unused = (off.own, off.fresh);
     jobs = grows_none s.jobs;
+    given_back = stays_same s.given_back;
     out = refl;
     went = back h p m q x off t;
     draws = draws_back h p m q x off t.1;
+    drew = drew_back h p m q x off t;
     later = omega arith;
   }
 
@@ -109,9 +118,11 @@ module _ {L C N : Type 0} (begins : Option (List ℕ) → ℕ → N → Type 0) 
     is = subst (λ (y : Pass). IsJobOf begins h terms p y l job) (sym t.3)
         (started_so h terms p m x l job off made);
     jobs = t.0;
+    given_back = t.4;
     out = t.1;
     went = subst (λ (y : Pass). Went h p 1 [] None y) (sym t.3) off.went;
     draws = subst (λ (y : Pass). Draws h p y) (sym t.3) (draws_now h p m x off);
+    drew = ap drawn_list t.3 ∙ (off.drew ∙ ap (λ (y : Pass). drawn_list p ++ number_of y ∷ []) (sym made.pass));
     rose = inl (let k = t.2 in omega (arith, k));
     counts = refl;
   }
@@ -121,9 +132,11 @@ module _ {L C N : Type 0} (begins : Option (List ℕ) → ℕ → N → Type 0) 
         fate = returned (ended_of (view_of x));
         is = (off.own, off.fresh);
         jobs = t.0;
+        given_back = t.4;
         out = t.1 ∙ sym (append-nil s.out);
         went = back h p m q x off b;
         draws = draws_back h p m q x off b.1;
+        drew = drew_back h p m q x off b;
         rose = rose_one s.unstarted s'.unstarted t.2;
         counts = refl;
       }
@@ -133,8 +146,10 @@ module _ {L C N : Type 0} (begins : Option (List ℕ) → ℕ → N → Type 0) 
         caller = ended_of (view_of x);
         unused = (off.own, off.fresh);
         jobs = t.0;
+        given_back = t.4;
         out = t.1;
         went = back h p m q x off b;
         draws = draws_back h p m q x off b.1;
+        drew = drew_back h p m q x off b;
         later = t.2;
       }

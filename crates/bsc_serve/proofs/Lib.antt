@@ -1,5 +1,7 @@
 mod Arrivals
+mod Earlier
 mod Giving
 mod Taking
 mod Sessions
 mod Ending
+mod Alone

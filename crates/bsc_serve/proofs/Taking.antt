@@ -1,10 +1,10 @@
 -- One link more in the loop that takes links, or one end of a session.
-use Rattle.std.proofs.Common.{inl, inr, ◌≡◌, ℕ, zero, suc, ◌+◌, ◌≤◌, List, [], ◌∷◌, ◌++◌, length, Bool, Option, Some, None, Ok, Err, refl, ap, sym, ◌∙◌, subst, arith, append-nil, length-append}
+use Rattle.std.proofs.Common.{inl, inr, ◌≡◌, ℕ, zero, suc, ◌+◌, ◌≤◌, List, [], ◌∷◌, ◌++◌, length, Bool, Option, Some, None, Ok, Err, refl, ap, sym, ◌∙◌, subst, arith, append-nil, append_assoc, length-append}
 use Rattle.std.specs.Prelude.{◌≢◌, ◌⊎◌}
 use Rattle.bsc_turn.specs.declared.pass.Pass.{Pass}
 use Rattle.bsc_turn.specs.declared.view.Ended.{Ended as EndedCaller}
 use Rattle.bsc_turn.specs.Histories.{StartsWith}
-use Rattle.bsc_turn.specs.Passes.{newest_number, number_of, seen}
+use Rattle.bsc_turn.specs.Passes.{drawn_list, newest_number, number_of, seen}
 use Rattle.bsc_hub.specs.declared.hub.Hub.{Hub}
 use Rattle.bsc_hub.specs.Passing.{IsCaller, Went}
 use Rattle.bsc_hub.proofs.Following.{passed_none, starts_then, went_then}
@@ -17,7 +17,7 @@ use Rattle.bsc_serve.specs.declared.halt.Halt.{Halt}
 use Rattle.bsc_serve.specs.declared.halt.Halt.TheVariants.{JournalFault}
 use Rattle.bsc_session.specs.declared.job.SessionJob.{SessionJob}
 use Rattle.bsc_session.specs.declared.session_end.SessionEnd.{SessionEnd}
-use Rattle.bsc_serve.specs.Events.{Event, OutAfter, arrived, callers_of, jobs_of, links_of, returned_of, unstarted_of}
+use Rattle.bsc_serve.specs.Events.{Event, OutAfter, arrived, callers_of, ends_of, jobs_of, links_of, numbers_in, numbers_of, returned_of, unstarted_of}
 use Rattle.bsc_serve.specs.Fates.{Fate, IsFate, IsSplitIn, caller_in, job_in, returned, spent, started}
 use Rattle.bsc_serve.specs.declared.tally.Tally.{Tally}
 use Rattle.bsc_serve.specs.Terms.{Terms}
@@ -25,7 +25,7 @@ use Rattle.bsc_serve.specs.Inner.{AllOurs, Draws, DrawsFor, Fared, Halted, Lacks
 use Rattle.bsc_serve.specs.Serving.{IsWithin, Loses, RoseBy}
 use Rattle.bsc_serve.specs.Tallies.{CountsUp, Remains, one_unless}
 use Rattle.bsc_serve.specs.Worlds.{ServeWorld}
-use Rattle.bsc_serve.proofs.Arrivals.{SpentStays, all_ended_then, asks_once, callers-append, fates_later, fates_then, jobs-append, links-append, loses_failed, loses_more, loses_none, loses_still, out_then, returned-append, rose_later, rose_then, unstarted-append}
+use Rattle.bsc_serve.proofs.Arrivals.{SpentStays, all_ended_then, asks_once, callers-append, ends-append, fates_later, fates_then, grows_no_more, grows_still, jobs-append, links-append, loses_failed, loses_more, loses_none, loses_still, numbers-append, out_then, returned-append, rose_later, rose_then, unstarted-append}
 
 -- a loop that began at p and stands at m has drawn no fewer numbers, or all
 abbrev HasDrawn : Hub → Pass → Pass → Type 0
@@ -94,16 +94,18 @@ module _ {L C N : Type 0} (begins : Option (List ℕ) → ℕ → N → Type 0) 
   fate_ours h terms p q l (returned e) is = tt
   fate_ours h terms p q l spent is = tt
 
-module _ {L C N : Type 0} (works : SessionJob L C N → SessionEnd → Type 0) (begins : Option (List ℕ) → ℕ → N → Type 0) where
+module _ {L C N : Type 0} (works : SessionJob L C N → SessionEnd L C N → Type 0) (begins : Option (List ℕ) → ℕ → N → Type 0) where
   -- before the first link
   pub taken_begins : (h : Hub) (terms : Terms) (w : ServeWorld L C N) (tally : Tally) → IsCaller h w.pass
       → w.out ≡ [] → tally.remaining ≡ terms.sessions → tally.unstarted ≡ 0 → Taken works begins h terms w w tally
   taken_begins h terms w tally is all_in same none = record {
     events = [];
     left = loses_none w.links;
+    came = grows_none w.came;
     asks = 0;
     asked = grows_none w.waits;
     jobs = grows_none w.jobs;
+    given_back = grows_none w.given_back;
     fates = tt;
     returned = inl (omega arith);
     out = all_in;
@@ -111,20 +113,23 @@ module _ {L C N : Type 0} (works : SessionJob L C N → SessionEnd → Type 0) (
     all_ended = tt;
     went = passed_none h w.pass is;
     drawn = inl (omega arith);
+    drew = sym (append-nil (drawn_list w.pass));
     remains = subst (λ x. Remains terms.sessions 0 x) (sym same) (begins_so terms.sessions);
     counted = inl none;
   }
 
   -- none arrived
-  pub taken_still : (h : Hub) (terms : Terms) (w m : ServeWorld L C N) (links : Option (List L)) (waits : Option (List ℕ))
-      (tally : Tally) → Taken works begins h terms w m tally → Leaves m.links links (Ok Quiet) → Grows m.waits waits (WAIT_MS ∷ [])
-      → Taken works begins h terms w (record m { links = links; waits = waits }) tally
-  taken_still h terms w m links waits tally t lost asked = record {
+  pub taken_still : (h : Hub) (terms : Terms) (w m : ServeWorld L C N) (links came : Option (List L)) (waits : Option (List ℕ))
+      (tally : Tally) → Taken works begins h terms w m tally → Leaves m.links links (Ok Quiet) → Grows m.came came [] → Grows m.waits waits (WAIT_MS ∷ [])
+      → Taken works begins h terms w (record m { links = links; came = came; waits = waits }) tally
+  taken_still h terms w m links came waits tally t lost none asked = record {
     events = t.events;
     left = loses_still w.links m.links links (links_of t.events) t.left lost;
+    came = grows_no_more w.came m.came came (links_of t.events) t.came none;
     asks = t.asks + 1;
     asked = asks_once w.waits m.waits waits t.asks t.asked asked;
     jobs = t.jobs;
+    given_back = t.given_back;
     fates = t.fates;
     returned = t.returned;
     out = t.out;
@@ -132,18 +137,19 @@ module _ {L C N : Type 0} (works : SessionJob L C N → SessionEnd → Type 0) (
     all_ended = t.all_ended;
     went = t.went;
     drawn = t.drawn;
+    drew = t.drew;
     remains = t.remains;
     counted = t.counted;
   }
 
   -- one arrived, and this became of it
   pub taken_more : (h : Hub) (terms : Terms) (w m v : ServeWorld L C N) (tally tally' : Tally) (x : L) (is_started : Bool)
-      → Taken works begins h terms w m tally → Leaves m.links v.links (Ok (Link x)) → Grows m.waits v.waits (WAIT_MS ∷ [])
+      → Taken works begins h terms w m tally → Leaves m.links v.links (Ok (Link x)) → Grows m.came v.came (x ∷ []) → Grows m.waits v.waits (WAIT_MS ∷ [])
       → Fared begins h terms x (giver m.pass (stock_of m)) (giver v.pass (stock_of v)) is_started
       → ((s : Option ℕ) (n : ℕ) → Remains s n tally.remaining → Remains s (n + 1) tally'.remaining)
       → ((u : ℕ) → CountsUp tally.unstarted u → CountsUp tally'.unstarted (u + one_unless is_started))
       → Taken works begins h terms w v tally'
-  taken_more h terms w m v tally tally' x is_started t lost asked r counts_on counts_up =
+  taken_more h terms w m v tally tally' x is_started t lost new asked r counts_on counts_up =
       let p = w.pass in
       let n = m.pass in
       let q = v.pass in
@@ -166,10 +172,13 @@ module _ {L C N : Type 0} (works : SessionJob L C N → SessionEnd → Type 0) (
       record {
         events = more ++ a;
         left = subst (λ xs. Loses w.links v.links xs) (sym links) (loses_more w.links m.links v.links (links_of more) x t.left lost);
+        came = subst (λ xs. Grows w.came v.came xs) (sym links) (grows_then w.came m.came v.came (links_of more) (x ∷ []) t.came new);
         asks = t.asks + 1;
         asked = asks_once w.waits m.waits v.waits t.asks t.asked asked;
         jobs = subst (λ xs. Grows w.jobs v.jobs xs) (sym jobs)
             (grows_then w.jobs m.jobs v.jobs (jobs_of more) (job_in r.fate) t.jobs r.jobs);
+        given_back = subst (λ xs. Grows w.given_back v.given_back xs) (sym (ends-append more a ∙ append-nil (ends_of more)))
+            (grows_still w.given_back m.given_back v.given_back (ends_of more) t.given_back r.given_back);
         fates = fates_then begins h terms p q more a
             (fates_later begins h terms p n q more r.went.grows (spent_stays h n q r.fate r.draws) t.fates) (is, tt);
         returned = subst (λ k. RoseBy k w.unstarted v.unstarted) (sym many)
@@ -181,16 +190,19 @@ module _ {L C N : Type 0} (works : SessionJob L C N → SessionEnd → Type 0) (
         went = subst (λ k. Went h p k (callers_of (more ++ a)) None q) (sym one)
             (subst (λ xs. Went h p (length (links_of more) + 1) xs None q) (sym callers) went);
         drawn = drawn_later h p n q r.fate t.drawn r.draws;
+        drew = r.drew ∙ (ap (λ (k : List ℕ). k ++ numbers_in r.fate) t.drew
+            ∙ (append_assoc (drawn_list p) (numbers_of more) (numbers_in r.fate)
+            ∙ ap (λ (k : List ℕ). drawn_list p ++ k) (sym (numbers-append more a ∙ ap (λ (k : List ℕ). numbers_of more ++ k) (append-nil (numbers_in r.fate))))));
         remains = subst (λ k. Remains terms.sessions k tally'.remaining) (sym one)
             (counts_on terms.sessions (length (links_of more)) t.remains);
         counted = subst (λ k. CountsUp tally'.unstarted k) (sym unstarted_so) (counts_up (unstarted_of more) t.counted);
       }
 
   -- the acceptor failed
-  pub halted_now : (h : Hub) (terms : Terms) (w m : ServeWorld L C N) (links : Option (List L)) (waits : Option (List ℕ))
+  pub halted_now : (h : Hub) (terms : Terms) (w m : ServeWorld L C N) (links came : Option (List L)) (waits : Option (List ℕ))
       (tally : Tally) (fault : LinkFault) (halt : Halt) → halt ≢ JournalFault → Taken works begins h terms w m tally → Leaves m.links links (Err fault)
-      → Grows m.waits waits (WAIT_MS ∷ []) → Halted works begins h terms w (record m { links = links; waits = waits }) halt
-  halted_now h terms w m links waits tally fault halt other t lost asked =
+      → Grows m.came came [] → Grows m.waits waits (WAIT_MS ∷ []) → Halted works begins h terms w (record m { links = links; came = came; waits = waits }) halt
+  halted_now h terms w m links came waits tally fault halt other t lost none asked =
       let all : length (links_of t.events) ≡ length (links_of t.events) + 0 = omega arith in
       record {
         events = t.events;
@@ -198,36 +210,45 @@ module _ {L C N : Type 0} (works : SessionJob L C N → SessionEnd → Type 0) (
         cut_last = other;
         left = subst (λ xs. Loses w.links links xs) (sym (append-nil (links_of t.events)))
             (loses_failed w.links m.links links (links_of t.events) fault t.left lost);
+        came = subst (λ xs. Grows w.came came xs) (sym (append-nil (links_of t.events)))
+            (grows_no_more w.came m.came came (links_of t.events) t.came none);
         within = within_now terms.sessions (length (links_of t.events)) tally.remaining t.remains;
         asks = t.asks + 1;
         asked = asks_once w.waits m.waits waits t.asks t.asked asked;
         jobs = t.jobs;
+        given_back = t.given_back;
         fates = t.fates;
         returned = t.returned;
         out = t.out;
+        ours = t.ours;
         all_ended = t.all_ended;
         went = subst (λ k. Went h w.pass k (callers_of t.events ++ []) None m.pass) all
             (subst (λ xs. Went h w.pass (length (links_of t.events)) xs None m.pass) (sym (append-nil (callers_of t.events))) t.went);
+        drew = t.drew ∙ ap (λ (k : List ℕ). drawn_list w.pass ++ k) (sym (append-nil (numbers_of t.events)));
       }
 
   -- one arrived, whose job couldn't be made
   pub halted_cut : (h : Hub) (terms : Terms) (w m v : ServeWorld L C N) (tally : Tally) (x : L) (fault : LinkFault) (halt : Halt)
       → halt ≡ fault_halt fault → Taken works begins h terms w m tally → tally.remaining ≢ Some 0 → Leaves m.links v.links (Ok (Link x))
-      → Grows m.waits v.waits (WAIT_MS ∷ []) → LacksRoom h m.pass v.pass (stock_of m) (stock_of v)
+      → Grows m.came v.came (x ∷ []) → Grows m.waits v.waits (WAIT_MS ∷ []) → LacksRoom h m.pass v.pass (stock_of m) (stock_of v)
       → Halted works begins h terms w v halt
-  halted_cut h terms w m v tally x fault halt so t more_come lost asked r = record {
+  halted_cut h terms w m v tally x fault halt so t more_come lost new asked r = record {
     events = t.events;
     cut = Some (record { link = x; caller = r.caller; fault = fault });
     cut_last = (so, r.unused);
     left = loses_more w.links m.links v.links (links_of t.events) x t.left lost;
+    came = grows_then w.came m.came v.came (links_of t.events) (x ∷ []) t.came new;
     within = within_more terms.sessions (length (links_of t.events)) tally.remaining more_come t.remains;
     asks = t.asks + 1;
     asked = asks_once w.waits m.waits v.waits t.asks t.asked asked;
     jobs = subst (λ xs. Grows w.jobs v.jobs xs) (append-nil (jobs_of t.events))
         (grows_then w.jobs m.jobs v.jobs (jobs_of t.events) [] t.jobs r.jobs);
+    given_back = grows_still w.given_back m.given_back v.given_back (ends_of t.events) t.given_back r.given_back;
     fates = fates_later begins h terms w.pass m.pass v.pass t.events r.went.grows (stays_draws h m.pass v.pass r.draws) t.fates;
     returned = rose_later (returned_of t.events) w.unstarted m.unstarted v.unstarted t.returned r.later;
     out = subst (λ (o : List (SessionJob L C N)). OutAfter works [] t.events o) (sym r.out) t.out;
+    ours = subst (λ (o : List (SessionJob L C N)). AllOurs h o) (sym r.out) t.ours;
     all_ended = t.all_ended;
     went = went_then h w.pass m.pass v.pass (length (links_of t.events)) 1 (callers_of t.events) (r.caller ∷ []) None t.went r.went;
+    drew = r.drew ∙ (ap (λ (k : List ℕ). k ++ r.caller.number ∷ []) t.drew ∙ append_assoc (drawn_list w.pass) (numbers_of t.events) (r.caller.number ∷ []));
   }

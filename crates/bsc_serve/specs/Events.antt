@@ -9,13 +9,13 @@ use Rattle.bsc_turn.specs.Passes.{number_of, own_list, view_of}
 use Rattle.bsc_hub.specs.declared.hub.Hub.{Hub}
 use Rattle.bsc_session.specs.declared.job.SessionJob.{SessionJob}
 use Rattle.bsc_session.specs.declared.session_end.SessionEnd.{SessionEnd}
-use Rattle.bsc_serve.specs.Fates.{Fate, IsFate, caller_in, job_in, unstarted_in}
+use Rattle.bsc_serve.specs.Fates.{Fate, IsFate, caller_in, job_in, returned, spent, started, unstarted_in}
 use Rattle.bsc_serve.specs.Terms.{Terms}
 
 -- A link left the acceptor, and this became of it; or a job that was out has ended, and this was left of it.
 pub data Event (L C N : Type 0) : Type 0 where
   arrived : L → Fate (SessionJob L C N) → Event L C N
-  ended : SessionJob L C N → SessionEnd → Event L C N
+  ended : SessionJob L C N → SessionEnd L C N → Event L C N
 
 module _ {L C N : Type 0} where
   -- The links, in the order in which they left the acceptor.
@@ -23,6 +23,12 @@ module _ {L C N : Type 0} where
   links_of [] = []
   links_of (arrived l f ∷ more) = l ∷ links_of more
   links_of (ended j d ∷ more) = links_of more
+
+  -- What is left of the jobs that have ended, in the order in which the spawner gave it back.
+  abbrev pub ends_of : List (Event L C N) → List (SessionEnd L C N)
+  ends_of [] = []
+  ends_of (arrived l f ∷ more) = ends_of more
+  ends_of (ended j d ∷ more) = d ∷ ends_of more
 
   -- The jobs that were taken, in order.
   abbrev pub jobs_of : List (Event L C N) → List (SessionJob L C N)
@@ -35,6 +41,18 @@ module _ {L C N : Type 0} where
   callers_of [] = []
   callers_of (arrived l f ∷ more) = caller_in f ++ callers_of more
   callers_of (ended j d ∷ more) = ended_of (view_of d.pass) ∷ callers_of more
+
+  -- The numbers that the hub's own pass drew for the links, in order: that of the pass of each job that was taken, and that of
+  -- the caller of each job that came back.
+  abbrev pub numbers_in : Fate (SessionJob L C N) → List ℕ
+  numbers_in (started j) = number_of j.pass ∷ []
+  numbers_in (returned e) = e.number ∷ []
+  numbers_in spent = []
+
+  abbrev pub numbers_of : List (Event L C N) → List ℕ
+  numbers_of [] = []
+  numbers_of (arrived l f ∷ more) = numbers_in f ++ numbers_of more
+  numbers_of (ended j d ∷ more) = numbers_of more
 
   -- How many jobs came back.
   abbrev pub returned_of : List (Event L C N) → ℕ
@@ -56,7 +74,7 @@ module _ {L C N : Type 0} where
 
   -- Which jobs are out, from before these events to behind them: one that was taken comes to them as the last; one that has
   -- ended was among them, is out no more, and this may be left of it.
-  abbrev pub OutAfter : (SessionJob L C N → SessionEnd → Type 0) → List (SessionJob L C N) → List (Event L C N) → List (SessionJob L C N)
+  abbrev pub OutAfter : (SessionJob L C N → SessionEnd L C N → Type 0) → List (SessionJob L C N) → List (Event L C N) → List (SessionJob L C N)
       → Type 0
   OutAfter works out [] still = still ≡ out
   OutAfter works out (arrived l f ∷ more) still = OutAfter works (out ++ job_in f) more still

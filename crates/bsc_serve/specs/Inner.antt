@@ -12,14 +12,14 @@ use Rattle.bsc_history.specs.Replies.{is_stopped}
 use Rattle.bsc_turn.specs.declared.pass.Pass.{Pass}
 use Rattle.bsc_turn.specs.declared.view.Ended.{Ended as EndedCaller}
 use Rattle.bsc_turn.specs.Effects.{ended_of}
-use Rattle.bsc_turn.specs.Passes.{ended_callers, loads_made, newest_number, number_of, own_list, seen, view_of}
+use Rattle.bsc_turn.specs.Passes.{drawn_list, ended_callers, loads_made, newest_number, number_of, own_list, seen, view_of}
 use Rattle.bsc_hub.specs.declared.hub.Hub.{Hub}
 use Rattle.bsc_hub.specs.Calls.{stop_made}
 use Rattle.bsc_hub.specs.Passing.{IsCaller, Passed, Went, about_of, found_history}
 use Rattle.bsc_outside.specs.Faults.{HasRisen}
 use Rattle.bsc_edge.specs.declared.fault.LinkFault.{LinkFault}
 use Rattle.bsc_edge.specs.declared.fault.LinkFault.TheVariants.{Failed as FaultFailed, NoMemory as FaultMemory}
-use Rattle.bsc_edge.specs.Told.{Grows}
+use Rattle.bsc_edge.specs.Told.{Grows, Stays}
 use Rattle.bsc_serve.specs.declared.bounds.TheConstants.{WAIT_MS}
 use Rattle.bsc_serve.specs.declared.halt.Halt.{Halt}
 use Rattle.bsc_serve.specs.declared.halt.Halt.TheVariants.{AcceptFault as HaltFault, JournalFault as HaltJournal, NoMemory as HaltMemory}
@@ -27,11 +27,11 @@ use Rattle.bsc_serve.specs.declared.end.ServeEnd.{ServeEnd}
 use Rattle.bsc_serve.specs.declared.end.ServeEnd.TheVariants.{Done, StoppedBefore, AcceptFault, JournalFault, NoMemory}
 use Rattle.bsc_session.specs.declared.job.SessionJob.{SessionJob}
 use Rattle.bsc_session.specs.declared.session_end.SessionEnd.{SessionEnd}
-use Rattle.bsc_serve.specs.Events.{AreFates, Event, OutAfter, arrived, callers_of, ended, jobs_of, links_of, returned_of, unstarted_of}
+use Rattle.bsc_serve.specs.Events.{AreFates, Event, OutAfter, arrived, callers_of, ended, ends_of, jobs_of, links_of, numbers_in, numbers_of, returned_of, unstarted_of}
 use Rattle.bsc_serve.specs.Fates.{Fate, IsFate, IsUnused, caller_in, job_in, returned, spent, started, unstarted_in}
 use Rattle.bsc_serve.specs.declared.tally.Tally.{Tally}
 use Rattle.bsc_serve.specs.Tallies.{CountsUp, Remains, one_unless}
-use Rattle.bsc_serve.specs.Serving.{Cut, IsWithin, Loses, RoseBy, cut_callers, cut_links}
+use Rattle.bsc_serve.specs.Serving.{Cut, IsWithin, Loses, RoseBy, cut_callers, cut_links, cut_numbers}
 use Rattle.bsc_serve.specs.Terms.{Terms}
 use Rattle.bsc_serve.specs.Worlds.{ServeWorld, Stock}
 
@@ -69,6 +69,7 @@ pub record SplitsOff (h : Hub) (p m x : Pass) : Type 0 where
   pub more : number_of p < number_of x
   pub newer : newest_number p < number_of x
   pub room : newest_number m < limit_of h
+  pub drew : drawn_list m ≡ drawn_list p ++ number_of x ∷ []
 
 -- The pass x was joined to m, which is q since.
 abbrev pub TakesBack : Hub → Pass → Pass → Pass → Type 0
@@ -84,13 +85,19 @@ module _ {L C N : Type 0} where
   AllOurs h (j ∷ more) = IsOurs h j × AllOurs h more
 
   -- What is left of a job is of this hub, and has its number.
-  abbrev pub IsOurEnd : Hub → SessionJob L C N → SessionEnd → Type 0
+  abbrev pub IsOurEnd : Hub → SessionJob L C N → SessionEnd L C N → Type 0
   IsOurEnd h j d = IsCaller h d.pass × (number_of d.pass ≡ number_of j.pass)
 
   abbrev pub AllEnded : Hub → List (Event L C N) → Type 0
   AllEnded h [] = ⊤
   AllEnded h (arrived l f ∷ more) = AllEnded h more
   AllEnded h (ended j d ∷ more) = IsOurEnd h j d × AllEnded h more
+
+-- Some of the jobs that were out have ended, and one end of each was given back.
+pub record GaveBack {J D : Type 0} (out still : List J) (before after : Option (List D)) : Type 0 where
+  pub ends : List D
+  pub one_each : length ends + length still ≡ length out
+  pub given_back : Grows before after ends
 
 -- What gives a link its session: the hub's own pass, and what is seen of the spawner.
 pub record Giver (L C N : Type 0) : Type 0 where
@@ -102,30 +109,41 @@ module _ {L C N : Type 0} where
   giver pass stock = record { pass = pass; stock = stock }
 
   abbrev pub stock_of : ServeWorld L C N → Stock L C N
-  stock_of w = record { jobs = w.jobs; out = w.out; unstarted = w.unstarted }
+  stock_of w = record { jobs = w.jobs; given_back = w.given_back; out = w.out; unstarted = w.unstarted }
 
-  -- the world with this pass and this of the spawner, and these links and waits
-  abbrev pub world_of : Pass → Stock L C N → Option (List L) → Option (List ℕ) → ServeWorld L C N
-  world_of p s links waits = record { pass = p; links = links; waits = waits; jobs = s.jobs; out = s.out; unstarted = s.unstarted }
+  -- the world with this pass and this of the spawner, and these links, that are left and that came, and waits
+  abbrev pub world_of : Pass → Stock L C N → Option (List L) → Option (List L) → Option (List ℕ) → ServeWorld L C N
+  world_of p s links came waits = record {
+    pass = p;
+    links = links;
+    came = came;
+    waits = waits;
+    jobs = s.jobs;
+    given_back = s.given_back;
+    out = s.out;
+    unstarted = s.unstarted;
+  }
 
   -- Its job couldn't be made.
   pub record LacksRoom (h : Hub) (p q : Pass) (s t : Stock L C N) : Type 0 where
     pub caller : EndedCaller
     pub unused : IsUnused caller
     pub jobs : Grows s.jobs t.jobs []
+    pub given_back : Stays s.given_back t.given_back
     pub out : t.out ≡ s.out
     pub went : Went h p 1 (caller ∷ []) None q
     pub draws : Draws h p q
+    pub drew : drawn_list q ≡ drawn_list p ++ caller.number ∷ []
     pub later : s.unstarted ≤ t.unstarted
 
   -- A job was handed over, or it came back and its pass was joined.
   abbrev pub HandsOver : Hub → Pass → Pass → SessionJob L C N → Stock L C N → Stock L C N → Result Bool LinkFault → Type 0
   HandsOver h m q job s t (Ok true) =
-      Grows s.jobs t.jobs (job ∷ []) × (t.out ≡ s.out ++ job ∷ []) × (s.unstarted ≤ t.unstarted) × (q ≡ m)
+      Grows s.jobs t.jobs (job ∷ []) × (t.out ≡ s.out ++ job ∷ []) × (s.unstarted ≤ t.unstarted) × (q ≡ m) × Stays s.given_back t.given_back
   HandsOver h m q job s t (Ok false) =
-      Grows s.jobs t.jobs [] × (t.out ≡ s.out) × HasRisen s.unstarted t.unstarted × TakesBack h m q job.pass
+      Grows s.jobs t.jobs [] × (t.out ≡ s.out) × HasRisen s.unstarted t.unstarted × TakesBack h m q job.pass × Stays s.given_back t.given_back
   HandsOver h m q job s t (Err e) =
-      Grows s.jobs t.jobs [] × (t.out ≡ s.out) × (s.unstarted ≤ t.unstarted) × TakesBack h m q job.pass
+      Grows s.jobs t.jobs [] × (t.out ≡ s.out) × (s.unstarted ≤ t.unstarted) × TakesBack h m q job.pass × Stays s.given_back t.given_back
 
 module _ {L C N : Type 0} (begins : Option (List ℕ) → ℕ → N → Type 0) where
   -- What became of one link.
@@ -133,9 +151,11 @@ module _ {L C N : Type 0} (begins : Option (List ℕ) → ℕ → N → Type 0) 
     pub fate : Fate (SessionJob L C N)
     pub is : IsFate begins h terms before.pass after.pass x fate
     pub jobs : Grows before.stock.jobs after.stock.jobs (job_in fate)
+    pub given_back : Stays before.stock.given_back after.stock.given_back
     pub out : after.stock.out ≡ before.stock.out ++ job_in fate
     pub went : Went h before.pass 1 (caller_in fate) None after.pass
     pub draws : DrawsFor h before.pass after.pass fate
+    pub drew : drawn_list after.pass ≡ drawn_list before.pass ++ numbers_in fate
     pub rose : RoseBy (length (caller_in fate)) before.stock.unstarted after.stock.unstarted
     pub counts : unstarted_in fate ≡ one_unless is_started
 
@@ -143,14 +163,31 @@ module _ {L C N : Type 0} (begins : Option (List ℕ) → ℕ → N → Type 0) 
   Fares h terms l before after (Ok is_started) = Fared h terms l before after is_started
   Fares h terms l before after (Err fault) = LacksRoom h before.pass after.pass before.stock after.stock
 
-module _ {L C N : Type 0} (works : SessionJob L C N → SessionEnd → Type 0) (begins : Option (List ℕ) → ℕ → N → Type 0) where
+module _ {L C N : Type 0} (works : SessionJob L C N → SessionEnd L C N → Type 0) where
+  -- From one pass and what is seen of the spawner to another: jobs that were out have ended, in this order, and their callers were
+  -- taken in. Where none has, the pass is as it was.
+  pub record TakesIn (h : Hub) (p : Pass) (s : Stock L C N) (q : Pass) (t : Stock L C N) : Type 0 where
+    pub late : List (Event L C N)
+    pub none : links_of late ≡ []
+    pub out : OutAfter works s.out late t.out
+    pub all_ended : AllEnded h late
+    pub went : Passed h p (callers_of late) None q
+    pub loaded : newest_number q ≡ newest_number p
+    pub same : late ≡ [] → q ≡ p
+    pub jobs : Stays s.jobs t.jobs
+    pub given_back : Grows s.given_back t.given_back (ends_of late)
+    pub later : s.unstarted ≤ t.unstarted
+
+module _ {L C N : Type 0} (works : SessionJob L C N → SessionEnd L C N → Type 0) (begins : Option (List ℕ) → ℕ → N → Type 0) where
   -- What has happened, in a loop that began with the world w and stands at v with this tally.
   pub record Taken (h : Hub) (terms : Terms) (w v : ServeWorld L C N) (tally : Tally) : Type 0 where
     pub events : List (Event L C N)
     pub left : Loses w.links v.links (links_of events)
+    pub came : Grows w.came v.came (links_of events)
     pub asks : ℕ
     pub asked : Grows w.waits v.waits (replicate asks WAIT_MS)
     pub jobs : Grows w.jobs v.jobs (jobs_of events)
+    pub given_back : Grows w.given_back v.given_back (ends_of events)
     pub fates : AreFates begins h terms w.pass v.pass events
     pub returned : RoseBy (returned_of events) w.unstarted v.unstarted
     pub out : OutAfter works [] events v.out
@@ -158,6 +195,7 @@ module _ {L C N : Type 0} (works : SessionJob L C N → SessionEnd → Type 0) (
     pub all_ended : AllEnded h events
     pub went : Went h w.pass (length (links_of events)) (callers_of events) None v.pass
     pub drawn : (newest_number w.pass ≤ newest_number v.pass) ⊎ (newest_number v.pass ≡ limit_of h)
+    pub drew : drawn_list v.pass ≡ drawn_list w.pass ++ numbers_of events
     pub remains : Remains terms.sessions (length (links_of events)) tally.remaining
     pub counted : CountsUp tally.unstarted (unstarted_of events)
 
@@ -167,15 +205,19 @@ module _ {L C N : Type 0} (works : SessionJob L C N → SessionEnd → Type 0) (
     pub cut : Option (Cut L)
     pub cut_last : CutAt cut halt
     pub left : Loses w.links v.links (links_of events ++ cut_links cut)
+    pub came : Grows w.came v.came (links_of events ++ cut_links cut)
     pub within : IsWithin terms.sessions (length (links_of events) + length (cut_links cut))
     pub asks : ℕ
     pub asked : Grows w.waits v.waits (replicate asks WAIT_MS)
     pub jobs : Grows w.jobs v.jobs (jobs_of events)
+    pub given_back : Grows w.given_back v.given_back (ends_of events)
     pub fates : AreFates begins h terms w.pass v.pass events
     pub returned : RoseBy (returned_of events) w.unstarted v.unstarted
     pub out : OutAfter works [] events v.out
+    pub ours : AllOurs h v.out
     pub all_ended : AllEnded h events
     pub went : Went h w.pass (length (links_of events) + length (cut_links cut)) (callers_of events ++ cut_callers cut) None v.pass
+    pub drew : drawn_list v.pass ≡ drawn_list w.pass ++ (numbers_of events ++ cut_numbers cut)
 
   -- The loop goes on, or halts.
   abbrev pub TakesOn : Hub → Terms → ServeWorld L C N → ServeWorld L C N → Tally → Option Halt → Type 0
@@ -190,8 +232,8 @@ module _ {L C N : Type 0} (works : SessionJob L C N → SessionEnd → Type 0) (
   -- From one pass and what is seen of the spawner to another: whatever has happened, it may have so since.
   abbrev pub GoesOn : Hub → Pass → Stock L C N → Pass → Stock L C N → Type 0
   GoesOn h p s q t =
-      (terms : Terms) (first : ServeWorld L C N) (links : Option (List L)) (waits : Option (List ℕ)) (tally : Tally)
-      → Taken h terms first (world_of p s links waits) tally → Taken h terms first (world_of q t links waits) tally
+      (terms : Terms) (first : ServeWorld L C N) (links came : Option (List L)) (waits : Option (List ℕ)) (tally : Tally)
+      → Taken h terms first (world_of p s links came waits) tally → Taken h terms first (world_of q t links came waits) tally
 
 -- What a stop of the hub says, whose pass was m and is q.
 pub record Stopped (h : Hub) (m q : Pass) (r : Result (Told Counts) AlreadyStopped) : Type 0 where

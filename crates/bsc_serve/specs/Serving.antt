@@ -9,9 +9,9 @@ use Rattle.bsc_history.specs.Marks.{entries}
 use Rattle.bsc_history.specs.Replies.{is_stopped}
 use Rattle.bsc_turn.specs.declared.pass.Pass.{Pass}
 use Rattle.bsc_turn.specs.declared.view.Ended.{Ended as EndedCaller}
-use Rattle.bsc_turn.specs.Passes.{number_of, seen}
+use Rattle.bsc_turn.specs.Passes.{drawn_list, number_of, seen}
 use Rattle.bsc_hub.specs.Calls.{stop_made}
-use Rattle.bsc_hub.specs.Passing.{Went, found_history}
+use Rattle.bsc_hub.specs.Passing.{Passed, Went, found_history}
 use Rattle.bsc_edge.specs.declared.fault.LinkFault.{LinkFault}
 use Rattle.bsc_edge.specs.declared.fault.LinkFault.TheVariants.{Failed}
 use Rattle.bsc_edge.specs.Told.{Grows}
@@ -22,7 +22,7 @@ use Rattle.bsc_serve.specs.declared.end.ServeEnd.{ServeEnd}
 use Rattle.bsc_serve.specs.declared.end.ServeEnd.TheVariants.{Done, StoppedBefore, AcceptFault, JournalFault, NoMemory}
 use Rattle.bsc_session.specs.declared.job.SessionJob.{SessionJob}
 use Rattle.bsc_session.specs.declared.session_end.SessionEnd.{SessionEnd}
-use Rattle.bsc_serve.specs.Events.{AllStand, AreFates, Event, OutAfter, callers_of, jobs_of, links_of, returned_of, unstarted_of}
+use Rattle.bsc_serve.specs.Events.{AllStand, AreFates, Event, OutAfter, callers_of, ends_of, jobs_of, links_of, numbers_of, returned_of, unstarted_of}
 use Rattle.bsc_serve.specs.Fates.{IsUnused}
 use Rattle.bsc_serve.specs.Terms.{Terms}
 use Rattle.bsc_serve.specs.Worlds.{ServedWorld}
@@ -52,6 +52,11 @@ module _ {L : Type 0} where
   abbrev pub cut_callers : Option (Cut L) → List EndedCaller
   cut_callers None = []
   cut_callers (Some c) = c.caller ∷ []
+
+  -- the number that was drawn for it
+  abbrev pub cut_numbers : Option (Cut L) → List ℕ
+  cut_numbers None = []
+  cut_numbers (Some c) = c.caller.number ∷ []
 
   -- why its job couldn't be made
   abbrev pub cut_fault : Option (Cut L) → Option LinkFault
@@ -101,21 +106,26 @@ module _ {L C N : Type 0} where
   EndsSo awaited events cut still stop lost JournalFault = JournalFailed cut lost
   EndsSo awaited events cut still stop lost NoMemory = JournalFailed cut lost → ⊥
 
-module _ {L C N : Type 0} (works : SessionJob L C N → SessionEnd → Type 0) (begins : Option (List ℕ) → ℕ → N → Type 0) where
+module _ {L C N : Type 0} (works : SessionJob L C N → SessionEnd L C N → Type 0) (begins : Option (List ℕ) → ℕ → N → Type 0) where
   -- What serving a hub comes to, on these terms, from one world to another of the same hub, where `works` says what may be left
   -- of a job, and `begins` whether a sink is the journal of a prefix and a number: there is what happened, in order, under want
   -- of memory or a fault of a journal one link more, the jobs that were still out when the hub was stopped, an answer of its
-  -- stop, and why the Stop's line wasn't put, if it wasn't, such that ..
+  -- stop, the own pass as the stop left it, how those jobs ended then, and why the Stop's line wasn't put, if it wasn't, such
+  -- that ..
   pub record Serving (terms : Terms) (before after : ServedWorld L C N) (end : ServeEnd) : Type 0 where
     pub events : List (Event L C N)
     pub cut : Option (Cut L)
     pub still : List (SessionJob L C N)
     pub stop : Result (Told Counts) AlreadyStopped
+    pub at_stop : Pass
+    pub late : List (Event L C N)
     pub lost : Option LinkFault
     pub cut_last : CutBy cut end
     pub hub : after.hub ≡ before.hub
-    -- .. these links left the acceptor, in order, no more than are awaited; and it was asked so often, for 20 ms each time;
+    -- .. these links left the acceptor, in order, so these came, no more than are awaited; and it was asked so often, for 20 ms
+    -- each time;
     pub left : Loses before.beside.links after.beside.links (links_of events ++ cut_links cut)
+    pub came : Grows before.beside.came after.beside.came (links_of events ++ cut_links cut)
     pub within : IsWithin terms.sessions (length (links_of events) + length (cut_links cut))
     pub asks : ℕ
     pub asked : Grows before.beside.waits after.beside.waits (replicate asks WAIT_MS)
@@ -125,15 +135,28 @@ module _ {L C N : Type 0} (works : SessionJob L C N → SessionEnd → Type 0) (
     pub fates : AreFates begins before.hub terms before.beside.pass after.beside.pass events
     -- no more came back than the spawner's count rose by;
     pub returned : RoseBy (returned_of events) before.beside.unstarted after.beside.unstarted
-    -- each job that ended was one that was out, and those that didn't were still out when the hub was stopped; none is at last;
+    -- each job that ended was one that was out, and those that didn't were still out when the hub was stopped; these ended after
+    -- it, and none is out at last;
     pub out : OutAfter works [] events still
+    pub late_out : OutAfter works still late []
+    pub only_ends : links_of late ≡ []
     pub gathered : after.beside.out ≡ []
+    -- the spawner gave back one end for each job that had been out before, and then the ends of these, in this order, and nothing
+    -- more;
+    pub earlier : List (SessionEnd L C N)
+    pub one_each : length earlier ≡ length before.beside.out
+    pub given_back : Grows before.beside.given_back after.beside.given_back (earlier ++ (ends_of events ++ ends_of late))
     -- the hub's own pass drew one number for each link, took in the callers that came back and those of the jobs that ended,
     -- in this order, and then stopped the hub, or found it stopped;
     pub went : Went before.hub before.beside.pass (length (links_of events) + length (cut_links cut)) (callers_of events ++ cut_callers cut)
-        (stop_made (number_of before.beside.pass) stop) after.beside.pass
+        (stop_made (number_of before.beside.pass) stop) at_stop
+    -- then it took in the callers of the jobs that had still been out; where none had, it is as the stop left it;
+    pub joined : Passed before.hub at_stop (callers_of late) None after.beside.pass
+    pub same : late ≡ [] → after.beside.pass ≡ at_stop
     pub stopped : StopAnswers after.beside.pass stop
-    -- all that the callers of these jobs entered stands in the history that the stop found, so before the Stop;
+    -- and the numbers that it drew are those of the passes that were split, in order;
+    pub drew : drawn_list after.beside.pass ≡ drawn_list before.beside.pass ++ (numbers_of events ++ cut_numbers cut)
+    -- all that the callers of the jobs that ended before it entered stands in the history that the stop found, so before the Stop;
     pub stop_last : AllStand (found_history (stop_made (number_of before.beside.pass) stop) after.beside.pass) events
     -- the own journal has the line of the Stop, if this call made it, and nothing more; or a first part of that line, where it
     -- wasn't put;

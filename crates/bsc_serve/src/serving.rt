@@ -149,8 +149,8 @@ fn end_of(halt: Halt, lost: Option<LinkFault>) -> ServeEnd
 /// and the policy. When a session has ended it joins its pass to this one. Once all have come and all sessions have ended,
 /// it stops the hub, and puts the line of the Stop into the own journal. A link that gets no session is closed with 1001.
 /// Where the acceptor fails, a journal can't be begun or memory runs out, it stops the hub first, which ends the sessions,
-/// and then waits for them. Without a prefix and a policy sessions make no lines. Jobs that the spawner had out before are
-/// awaited at first.
+/// and then waits for them and joins their passes. Without a prefix and a policy sessions make no lines. Jobs that the spawner
+/// had out before are awaited at first.
 pub fn serve_on<
     R: Wait,
     C: Clock + Drop,
@@ -170,7 +170,7 @@ pub fn serve_on<
     ensures again { P.can_start parts.new.spawner }
 
     // What became of the links, which jobs were taken and ended, and what the hub was told at last.
-    ensures serving { Serving (Worked L.talk L.faults C.readings N.held N.faults) J.begins
+    ensures serving { Serving (Worked L.talk L.faults L.notices C.readings N.held N.faults) J.begins
         (all_terms served.entry.terms (option_map (λ p. p.now) served.entry.prefix) (policy_of served.entry.policy.now))
         (record {
           hub = arc_value served.entry.hub.now;
@@ -178,8 +178,10 @@ pub fn serve_on<
           beside = record {
             pass = pass.old;
             links = A.left parts.old.acceptor;
+            came = A.came parts.old.acceptor;
             waits = A.waits parts.old.acceptor;
             jobs = P.jobs parts.old.spawner;
+            given_back = P.ends parts.old.spawner;
             out = P.out parts.old.spawner;
             unstarted = P.faults parts.old.spawner;
           };
@@ -190,8 +192,10 @@ pub fn serve_on<
           beside = record {
             pass = pass.new;
             links = A.left parts.new.acceptor;
+            came = A.came parts.new.acceptor;
             waits = A.waits parts.new.acceptor;
             jobs = P.jobs parts.new.spawner;
+            given_back = P.ends parts.new.spawner;
             out = P.out parts.new.spawner;
             unstarted = P.faults parts.new.spawner;
           };
@@ -221,8 +225,9 @@ pub fn serve_on<
             done(unstarted, stopped)
         }
         Err(halt) => {
-            let told = finish(served.rt, served.alloc, served.hub, pass, own);
-            await_all(served.rt, &mut parts.spawner);
+            let hub: &Hub = served.hub;
+            let told = finish(served.rt, served.alloc, hub, pass, own);
+            take_ended::<R, C, L, N, J, P>(served.rt, hub, pass, &mut parts.spawner, true);
             end_of(halt, told.lost)
         }
     }

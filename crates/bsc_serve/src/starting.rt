@@ -41,8 +41,8 @@ fn hand_over<
     requires other { IsCaller hub.now job.pass }
     ensures again { P.can_start spawner.new }
     ensures hands { HandsOver hub.now pass.old pass.new job
-        (record { jobs = P.jobs spawner.old; out = P.out spawner.old; unstarted = P.faults spawner.old })
-        (record { jobs = P.jobs spawner.new; out = P.out spawner.new; unstarted = P.faults spawner.new }) result }
+        (record { jobs = P.jobs spawner.old; given_back = P.ends spawner.old; out = P.out spawner.old; unstarted = P.faults spawner.old })
+        (record { jobs = P.jobs spawner.new; given_back = P.ends spawner.new; out = P.out spawner.new; unstarted = P.faults spawner.new }) result }
     ensures memory { result ≢ Err LinkFault.Failed }
 {
     match spawner.start(rt, alloc, job) {
@@ -97,11 +97,11 @@ pub(crate) fn start_session<
         link
         (record {
           pass = pass.old;
-          stock = record { jobs = P.jobs parts.old.spawner; out = P.out parts.old.spawner; unstarted = P.faults parts.old.spawner };
+          stock = record { jobs = P.jobs parts.old.spawner; given_back = P.ends parts.old.spawner; out = P.out parts.old.spawner; unstarted = P.faults parts.old.spawner };
         })
         (record {
           pass = pass.new;
-          stock = record { jobs = P.jobs parts.new.spawner; out = P.out parts.new.spawner; unstarted = P.faults parts.new.spawner };
+          stock = record { jobs = P.jobs parts.new.spawner; given_back = P.ends parts.new.spawner; out = P.out parts.new.spawner; unstarted = P.faults parts.new.spawner };
         }) result }
     ensures unbegun { result ≡ Err LinkFault.Failed → HasRisen (J.faults parts.old.journals) (J.faults parts.new.journals) }
     ensures journals_later { J.faults parts.old.journals ≤ J.faults parts.new.journals }

@@ -23,8 +23,11 @@ use std::test::*;
 
 type Session = SessionJob<CuedLink, Still, KeptJournal>;
 
+/// What is left of it.
+type Left = SessionEnd<CuedLink, Still, KeptJournal>;
+
 /// The thread of a session.
-type Thread = Running<Result<SessionEnd, Session>, Promised<Session>>;
+type Thread = Running<Result<Left, Session>, Promised<Session>>;
 
 /// The greatest number of receives of a session that meets another: time enough for a thread to start.
 const TURNS: u64 = 5_000_000;

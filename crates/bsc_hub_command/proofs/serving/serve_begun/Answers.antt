@@ -11,11 +11,11 @@ returns-in-Ok-clause-went g c =
     let P = g.P.Spawner in
     let J = g.J.Journals in
     let N = g.N.Sink in
-    let W = Worked g.L.Link.talk g.L.Link.faults g.C.Clock.readings N.held N.faults in
+    let W = Worked g.L.Link.talk g.L.Link.faults g.L.Link.notices g.C.Clock.readings N.held N.faults in
     let asked : HubTerms = terms_in c.args.asked in
-    let before : HubWorld g.row.L.Denot g.row.C.Denot g.row.N.Denot = record { links = A.left c.args.parts.now.acceptor; waits = A.waits c.args.parts.now.acceptor; port = A.bound c.args.parts.now.acceptor; faults = A.faults c.args.parts.now.acceptor; jobs = P.jobs c.args.parts.now.spawner; out = P.out c.args.parts.now.spawner; unstarted = P.faults c.args.parts.now.spawner; unbegun = J.faults c.args.parts.now.journals; written = g.K.Sink.held c.args.sink.now } in
+    let before : HubWorld g.row.L.Denot g.row.C.Denot g.row.N.Denot = record { links = A.left c.args.parts.now.acceptor; came = A.came c.args.parts.now.acceptor; waits = A.waits c.args.parts.now.acceptor; port = A.bound c.args.parts.now.acceptor; faults = A.faults c.args.parts.now.acceptor; jobs = P.jobs c.args.parts.now.spawner; given_back = P.ends c.args.parts.now.spawner; out = P.out c.args.parts.now.spawner; unstarted = P.faults c.args.parts.now.spawner; unbegun = J.faults c.args.parts.now.journals; written = g.K.Sink.held c.args.sink.now } in
     let n = c.serve_titled-status.new in
-    let after : HubWorld g.row.L.Denot g.row.C.Denot g.row.N.Denot = record { links = A.left n.parts.acceptor; waits = A.waits n.parts.acceptor; port = A.bound n.parts.acceptor; faults = A.faults n.parts.acceptor; jobs = P.jobs n.parts.spawner; out = P.out n.parts.spawner; unstarted = P.faults n.parts.spawner; unbegun = J.faults n.parts.journals; written = g.K.Sink.held n.sink } in
+    let after : HubWorld g.row.L.Denot g.row.C.Denot g.row.N.Denot = record { links = A.left n.parts.acceptor; came = A.came n.parts.acceptor; waits = A.waits n.parts.acceptor; port = A.bound n.parts.acceptor; faults = A.faults n.parts.acceptor; jobs = P.jobs n.parts.spawner; given_back = P.ends n.parts.spawner; out = P.out n.parts.spawner; unstarted = P.faults n.parts.spawner; unbegun = J.faults n.parts.journals; written = g.K.Sink.held n.sink } in
     inr (record {
       begun = c.in-Ok.begun;
       own = c.serve_titled-status.new.own;
@@ -30,7 +30,7 @@ pub returns-in-Err-clause-went : goal.returns-in-Err-clause-went
 returns-in-Err-clause-went g c =
     inl (record {
       none = c.requires.own;
-      untouched = record { links = refl; waits = refl; port = refl; faults = refl; jobs = refl; out = refl; unstarted = refl };
+      untouched = record { links = refl; came = refl; waits = refl; port = refl; faults = refl; jobs = refl; given_back = refl; out = refl; unstarted = refl };
       stops = c.stop_alone.ensures;
       says = says_lost c.tell_lost.result c.in-Err.fault _ _ _ (λ e. c.begin.ensures.failed (c.in-Err.is ∙ ap Err e)) c.tell_lost.ensures.says;
     })
