@@ -8,6 +8,7 @@ pub mod Within
 pub mod InTurn
 pub mod Verdict
 pub mod Stopping
+pub mod Told
 pub mod SayAgain
 pub mod Counts
 pub mod OneHistory

@@ -103,3 +103,8 @@ AnswersOf r o left = ReadsAll r o left
 -- An answer that says so, with so many entries, or one that says nothing of the octets.
 abbrev pub IsLegalOrNothing : ℕ → AuditEnd → Type 0
 IsLegalOrNothing n r = (r ≡ IsLegal n) ⊎ (r ≡ ReadFault) ⊎ (r ≡ NoMemory)
+
+-- What an answer says of the octets o that a source had holds, and where they may be believed, it says so.
+pub record Answers (r : AuditEnd) (o : List ℕ) (left : Option (List ℕ)) : Type 0 where
+  pub tells : AnswersOf r o left
+  pub legal : (entries : ℕ) → Audited o entries → IsLegalOrNothing entries r

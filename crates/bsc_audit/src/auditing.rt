@@ -1,8 +1,9 @@
 //! The audit.
 ghost use Rattle.std.specs.Prelude.{◌≡◌, ◌≤◌, ℕ, List, Some};
 ghost use Rattle.bsc_outside.specs.Faults.{HasRisen};
+ghost use Rattle.bsc_text.specs.Gave.{OfReads};
 ghost use Rattle.bsc_journal.specs.Journals.{Audited};
-ghost use Rattle.bsc_audit.specs.Verdicts.{AnswersOf, IsLegalOrNothing};
+ghost use Rattle.bsc_audit.specs.Verdicts.{Answers, AnswersOf, IsLegalOrNothing};
 
 use crate::audit_end::AuditEnd;
 use crate::judging::judge;
@@ -17,6 +18,9 @@ use std::alloc::Global;
 pub fn audit<S: Source>(alloc: Global, source: &mut S) -> AuditEnd
     // What the answer says of the octets that the source had.
     ensures tells { (o : List ℕ) → S.left source.old ≡ Some o → AnswersOf result o (S.left source.new) }
+
+    // The same of what the reads gave and of whatever is left behind it, as no source can tell what is still to come.
+    ensures took { OfReads (S.reads source.old) (S.reads source.new) (λ o rest. Answers result o (Some rest)) }
 
     // Journals that may be believed are told to be legal, but for a failed read or want of memory.
     ensures legal { (o : List ℕ) (entries : ℕ) → S.left source.old ≡ Some o → Audited o entries →

@@ -1,10 +1,11 @@
 //! Taking in journals: all that a source has is read and kept, and each line is heard as it comes.
 ghost use Rattle.std.specs.Prelude.{◌≡◌, ◌≤◌, ◌<◌, ◌+◌, ◌⊎◌, ℕ, List, [], ◌++◌, length, drop, true, false, Some, IfOk, IfErr, OnOk, Ok, Err};
 ghost use Rattle.std.specs.Io.KnownBytes.{Consumes, IsAtEnd};
+ghost use Rattle.bsc_text.specs.Gave.{OfReads};
 ghost use Rattle.bsc_text.specs.Lines.{has_no_lf};
 ghost use Rattle.bsc_outside.specs.Faults.{HasRisen};
 ghost use Rattle.bsc_audit.specs.Hearing.{HasHeard, HasHeardAll};
-ghost use Rattle.bsc_audit.specs.Taking.{ReadsMore, StopsAtEnd, StopsWithin, end_of};
+ghost use Rattle.bsc_audit.specs.Taking.{ReadsMore, ReadsOnce, StopsAtEnd, StopsWithin, end_of};
 ghost use Rattle.bsc_audit.specs.Verdicts.{AnswersOf};
 
 use crate::audit_end::AuditEnd;
@@ -66,6 +67,9 @@ fn read_more<S: Source>(
     ensures stopped { IfErr result (λ e. (e ≡ AuditEnd.ReadFault) ⊎ (e ≡ AuditEnd.NoMemory)) }
     ensures fault { result ≡ Err AuditEnd.ReadFault → HasRisen (S.faults source.old) (S.faults source.new) }
     ensures later { S.faults source.old ≤ S.faults source.new }
+
+    // One read was made, and the answer says what it gave: want of memory isn't told of a read that failed.
+    ensures once { ReadsOnce (S.reads source.old) (S.reads source.new) result octets.old.items octets.new.items }
 {
     chunk.truncate(room_behind(octets.len()));
     let n = match source.read(chunk.as_mut_slice()) {
@@ -113,6 +117,8 @@ pub(crate) fn take_in<S: Source>(alloc: Global, source: &mut S) -> Result<Journa
     ensures stopped { IfErr result (λ e. (o : List ℕ) → S.left source.old ≡ Some o → AnswersOf e o (S.left source.new)) }
     ensures fault { result ≡ Err AuditEnd.ReadFault → HasRisen (S.faults source.old) (S.faults source.new) }
     ensures later { S.faults source.old ≤ S.faults source.new }
+    ensures took { OfReads (S.reads source.old) (S.reads source.new) (λ o rest.
+        IfOk result (λ t. (o ≡ t.octets.items) × (rest ≡ [])) × IfErr result (λ e. AnswersOf e o (Some rest))) }
 {
     let Ok(mut chunk) = vec![in alloc; 0; CHUNK_LEN] else {
         return Err(AuditEnd::NoMemory);

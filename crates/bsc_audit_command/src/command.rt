@@ -1,6 +1,7 @@
 //! The command.
 ghost use Rattle.std.specs.Prelude.{◌≡◌, ◌≤◌, ◌⊎◌, ℕ, List, Some, string_bytes, IfOk};
 ghost use Rattle.bsc_outside.specs.Faults.{HasRisen};
+ghost use Rattle.bsc_text.specs.Gave.{OfReads};
 ghost use Rattle.bsc_player.specs.Faults.{RisesIf};
 ghost use Rattle.bsc_audit_command.specs.Audits.{IsStatus, RunsAudit};
 ghost use Rattle.bsc_audit_command.specs.Lines.{Ends, SaysAudit};
@@ -53,6 +54,10 @@ fn tell<K: Sink>(alloc: Global, sink: &mut K, end: AuditEnd) -> u8
 pub fn run_audit<S: Source, K: Sink>(alloc: Global, source: &mut S, sink: &mut K) -> u8
     ensures runs { (o : List ℕ) → S.left source.old ≡ Some o →
         RunsAudit o (S.left source.new) result (K.held sink.old) (K.held sink.new) }
+
+    // The same of what the reads gave and of whatever is left behind it, as no source can tell what is still to come.
+    ensures took { OfReads (S.reads source.old) (S.reads source.new) (λ o rest.
+        RunsAudit o (Some rest) result (K.held sink.old) (K.held sink.new)) }
     ensures read { RisesIf result 3 (S.faults source.old) (S.faults source.new) }
     ensures write { RisesIf result 4 (K.faults sink.old) (K.faults sink.new) }
     ensures statuses { IsStatus result }

@@ -3,7 +3,9 @@ use Rattle.std.proofs.Common.{◌≡◌, ℕ, ◌≤◌, Bool, true, false, nat_
 use Rattle.std.proofs.lemmas.Bool.{and_parts, leb-true}
 use Rattle.std.specs.Prelude.{⊤, if◌then◌else◌}
 use Rattle.clap.specs.Words.{Kinds, Text, fault_of}
+use Rattle.bsc_text.specs.Gave.{OfReads}
 use Rattle.bsc_text.specs.Grammar.{number_of}
+use Rattle.bsc_text.proofs.Taking.{gave_nothing}
 use Rattle.bsc_text.specs.Lines.{same_octets}
 use Rattle.bsc_outside.specs.Faults.{PutsPrefix}
 use Rattle.bsc_player.specs.declared.play_end.PlayEnd.TheVariants as play_end
@@ -131,6 +133,12 @@ module _ (p : List ℕ → Played) (s : ℕ) (o t : List ℕ) (left before after
       (record { taken = record { read = []; rest = o; parts = refl; remains = is }; written = nothing before t (p (lines_read [] o)).text held })
       ran
 
+pub unread_of_reads : (p : List ℕ → Played) (s : ℕ) (t : List ℕ) (reads : Option (List (List ℕ))) (before after : Option (List ℕ)) (f f' : ℕ) → before ≡ Some t → RanOut s before after → OfReads reads reads (λ o rest. StatusTells p s o t (Some rest) after f f')
+unread_of_reads p s t reads before after f f' held ran = ([], gave_nothing reads, λ rest may. unread p s rest t (Some rest) before after f f' refl held ran)
+
 -- and before the journals were
 pub unaudited : (s : ℕ) (o : List ℕ) (left before after : Option (List ℕ)) → RanOut s before after → RunsAudit o left s before after
 unaudited s o left before after ran = record { end = audit_end.NoMemory; answers = tt; legal = λ n audited. inr (inr refl); says = ran }
+
+pub unaudited_of_reads : (s : ℕ) (reads : Option (List (List ℕ))) (before after : Option (List ℕ)) → RanOut s before after → OfReads reads reads (λ o rest. RunsAudit o (Some rest) s before after)
+unaudited_of_reads s reads before after ran = ([], gave_nothing reads, λ rest may. unaudited s rest (Some rest) before after ran)

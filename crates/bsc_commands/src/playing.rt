@@ -2,7 +2,8 @@
 ghost use Rattle.std.specs.Prelude.{◌≡◌, ◌≢◌, ◌≤◌, ℕ, List, Some};
 ghost use Rattle.bsc_player.specs.Ends.{PlaysOut};
 ghost use Rattle.bsc_player.specs.Faults.{RisesIf};
-ghost use Rattle.bsc_player.specs.Statuses.{IsStatus, StatusSays, play_world};
+ghost use Rattle.bsc_player.specs.Statuses.{IsStatus, StatusSays, StatusSaysOfReads, play_world, read_world};
+ghost use Rattle.bsc_text.specs.Gave.{OfReads};
 ghost use Rattle.bsc_commands.specs.Commands.{played_by};
 
 use bsc_outside::{Sink, Source};
@@ -31,6 +32,8 @@ fn play_command<S: Source, K: Sink>(
 ) -> ReplayEnd
     ensures played { (o t : List ℕ) → S.left source.old ≡ Some o → K.held sink.old ≡ Some t →
         PlaysOut (played_by command) result o t (S.left source.new) (K.held sink.new) }
+    ensures took { (t : List ℕ) → K.held sink.old ≡ Some t → OfReads (S.reads source.old) (S.reads source.new)
+        (λ o rest. PlaysOut (played_by command) result o t (Some rest) (K.held sink.new)) }
     ensures read_fault { RisesIf result ReplayEnd.ReadFault (S.faults source.old) (S.faults source.new) }
     ensures write_fault { RisesIf result ReplayEnd.WriteFault (K.faults sink.old) (K.faults sink.new) }
     ensures reads_later { S.faults source.old ≤ S.faults source.new }
@@ -56,6 +59,8 @@ pub fn play<S: Source, K: Sink>(alloc: Global, command: Command, source: &mut S,
     // What the status says of the input: what was read, and what was written.
     ensures played { StatusSays (played_by command) (play_world S.left S.faults K.held source.old sink.old)
         (play_world S.left S.faults K.held source.new sink.new) result }
+    ensures took { StatusSaysOfReads (played_by command) (read_world S.reads S.faults K.held source.old sink.old)
+        (read_world S.reads S.faults K.held source.new sink.new) result }
 
     // Faults of the source and the sink are counted.
     ensures read { RisesIf result 3 (S.faults source.old) (S.faults source.new) }

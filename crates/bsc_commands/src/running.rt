@@ -4,7 +4,8 @@ ghost use Rattle.clap.specs.Words.{Text};
 ghost use Rattle.bsc_outside.specs.Faults.{HasRisen, PutsPrefix};
 ghost use Rattle.bsc_player.specs.Faults.{RisesIf};
 ghost use Rattle.bsc_player.specs.LastLines.{EndsWith, RanOut, words_line};
-ghost use Rattle.bsc_player.specs.Statuses.{StatusSays, play_world};
+ghost use Rattle.bsc_player.specs.Statuses.{StatusSays, StatusSaysOfReads, play_world, read_world};
+ghost use Rattle.bsc_text.specs.Gave.{OfReads};
 ghost use Rattle.bsc_script.specs.Scripts.{replay_of};
 ghost use Rattle.bsc_replay.specs.Checks.{check_of};
 ghost use Rattle.bsc_network_script.specs.Scripts.{simulate_of};
@@ -86,11 +87,11 @@ fn run_asked<
     ensures hub { (path : Text) (sessions : Option ℕ) (journal : Option Text) (made : _) →
         seen asked.entry ≡ hub path sessions journal → outside.new.place.kept.hub ≡ Some made →
         (v : HubSettings) × (policy : Option Policy) × IsSettled (F.holds outside.old.files path) v policy
-        × HubRuns (telling (Worked L.talk L.faults C.readings N.held N.faults) J.begins N.held N.faults)
+        × HubRuns (telling (Worked L.talk L.faults L.notices C.readings N.held N.faults) J.begins N.held N.faults)
         (record { settings = v; policy = policy; sessions = sessions; prefix = journal })
         outside.new.place
-        (world_by (door_by A.left A.waits A.bound A.faults) (stock_by P.jobs P.out P.faults) J.faults outside.old.parts (K.held outside.old.sink))
-        (world_by (door_by A.left A.waits A.bound A.faults) (stock_by P.jobs P.out P.faults) J.faults outside.new.parts (K.held outside.new.sink))
+        (world_by (door_by A.left A.came A.waits A.bound A.faults) (stock_by P.jobs P.ends P.out P.faults) J.faults outside.old.parts (K.held outside.old.sink))
+        (world_by (door_by A.left A.came A.waits A.bound A.faults) (stock_by P.jobs P.ends P.out P.faults) J.faults outside.new.parts (K.held outside.new.sink))
         result }
     ensures no_hub { (path : Text) (sessions : Option ℕ) (journal : Option Text) →
         seen asked.entry ≡ hub path sessions journal → outside.new.place.kept.hub ≡ None →
@@ -129,6 +130,17 @@ fn run_asked<
     ensures checked { seen asked.entry ≡ check → StatusSays check_of
         (play_world S.left S.faults K.held outside.old.source outside.old.sink)
         (play_world S.left S.faults K.held outside.new.source outside.new.sink) result }
+    ensures replayed_reads { seen asked.entry ≡ replay → StatusSaysOfReads replay_of
+        (read_world S.reads S.faults K.held outside.old.source outside.old.sink)
+        (read_world S.reads S.faults K.held outside.new.source outside.new.sink) result }
+    ensures simulated_reads { seen asked.entry ≡ simulate → StatusSaysOfReads simulate_of
+        (read_world S.reads S.faults K.held outside.old.source outside.old.sink)
+        (read_world S.reads S.faults K.held outside.new.source outside.new.sink) result }
+    ensures checked_reads { seen asked.entry ≡ check → StatusSaysOfReads check_of
+        (read_world S.reads S.faults K.held outside.old.source outside.old.sink)
+        (read_world S.reads S.faults K.held outside.new.source outside.new.sink) result }
+    ensures audited_reads { seen asked.entry ≡ audit → OfReads (S.reads outside.old.source) (S.reads outside.new.source)
+        (λ o rest. RunsAudit o (Some rest) result (K.held outside.old.sink) (K.held outside.new.sink)) }
     ensures audited { (o : List ℕ) → seen asked.entry ≡ audit → S.left outside.old.source ≡ Some o →
         RunsAudit o (S.left outside.new.source) result (K.held outside.old.sink) (K.held outside.new.sink) }
     ensures source { (seen asked.entry ≡ replay) ⊎ (seen asked.entry ≡ simulate) ⊎ (seen asked.entry ≡ check)
@@ -241,11 +253,11 @@ pub fn run<
     ensures hub { (path : Text) (sessions : Option ℕ) (journal : Option Text) (made : _) →
         asked_in read.now ≡ Some (hub path sessions journal) → outside.new.place.kept.hub ≡ Some made →
         (v : HubSettings) × (policy : Option Policy) × IsSettled (F.holds outside.old.files path) v policy
-        × HubRuns (telling (Worked L.talk L.faults C.readings N.held N.faults) J.begins N.held N.faults)
+        × HubRuns (telling (Worked L.talk L.faults L.notices C.readings N.held N.faults) J.begins N.held N.faults)
         (record { settings = v; policy = policy; sessions = sessions; prefix = journal })
         outside.new.place
-        (world_by (door_by A.left A.waits A.bound A.faults) (stock_by P.jobs P.out P.faults) J.faults outside.old.parts (K.held outside.old.sink))
-        (world_by (door_by A.left A.waits A.bound A.faults) (stock_by P.jobs P.out P.faults) J.faults outside.new.parts (K.held outside.new.sink))
+        (world_by (door_by A.left A.came A.waits A.bound A.faults) (stock_by P.jobs P.ends P.out P.faults) J.faults outside.old.parts (K.held outside.old.sink))
+        (world_by (door_by A.left A.came A.waits A.bound A.faults) (stock_by P.jobs P.ends P.out P.faults) J.faults outside.new.parts (K.held outside.new.sink))
         result }
     ensures no_hub { (path : Text) (sessions : Option ℕ) (journal : Option Text) →
         asked_in read.now ≡ Some (hub path sessions journal) → outside.new.place.kept.hub ≡ None →
@@ -299,6 +311,23 @@ pub fn run<
     ensures checked { asked_in read.now ≡ Some check → StatusSays check_of
         (play_world S.left S.faults K.held outside.old.source outside.old.sink)
         (play_world S.left S.faults K.held outside.new.source outside.new.sink) result }
+
+    // The same of what the reads of the source gave and of whatever is left behind it, which is nothing where a read found the
+    // end: no source can tell what is still to come.
+    ensures replayed_reads { asked_in read.now ≡ Some replay → StatusSaysOfReads replay_of
+        (read_world S.reads S.faults K.held outside.old.source outside.old.sink)
+        (read_world S.reads S.faults K.held outside.new.source outside.new.sink) result }
+    ensures simulated_reads { asked_in read.now ≡ Some simulate → StatusSaysOfReads simulate_of
+        (read_world S.reads S.faults K.held outside.old.source outside.old.sink)
+        (read_world S.reads S.faults K.held outside.new.source outside.new.sink) result }
+    ensures delivered_reads { (t : List ℕ) → asked_in read.now ≡ Some simulate → K.held outside.old.sink ≡ Some t →
+        OfReads (S.reads outside.old.source) (S.reads outside.new.source)
+        (λ o rest. WritesWhatWasSent o t (K.held outside.new.sink)) }
+    ensures checked_reads { asked_in read.now ≡ Some check → StatusSaysOfReads check_of
+        (read_world S.reads S.faults K.held outside.old.source outside.old.sink)
+        (read_world S.reads S.faults K.held outside.new.source outside.new.sink) result }
+    ensures audited_reads { asked_in read.now ≡ Some audit → OfReads (S.reads outside.old.source) (S.reads outside.new.source)
+        (λ o rest. RunsAudit o (Some rest) result (K.held outside.old.sink) (K.held outside.new.sink)) }
 
     // Of the words of an audit, what it answered of the source's octets, and what was written of that.
     ensures audited { (o : List ℕ) → asked_in read.now ≡ Some audit → S.left outside.old.source ≡ Some o →

@@ -2,7 +2,9 @@
 use Rattle.std.proofs.Common.{◌≡◌, ℕ, ◌⊎◌, inl, inr, ⊎_elim, List, [], ◌++◌, take, drop, refl, ap, sym, ◌∙◌, subst, append-nil, arith, Option, Some, None, Result, Ok, Err}
 use Rattle.std.proofs.lemmas.List.{take-append-drop}
 use Rattle.std.specs.Prelude.{⊤, OnOk, OnErr}
+use Rattle.std.specs.List.{concat}
 use Rattle.std.specs.Io.KnownBytes.{Appends}
+use Rattle.bsc_text.specs.Gave.{OfReads}
 use Rattle.bsc_outside.specs.Faults.{HasRisen, PutsPrefix}
 use Rattle.bsc_outside.specs.declared.stream.Failed.{Failed}
 use Rattle.bsc_player.specs.declared.play_end.PlayEnd.{PlayEnd}
@@ -166,3 +168,10 @@ pub tells : (p : List ℕ → Played) (status : ℕ) (o t : List ℕ) (left mid 
     → StatusTells p status o t left held faults faults'
 tells p status o t left mid held faults faults' end rose played ends =
     tells_of p status o t left held faults faults' (told p status o t left mid held faults faults' end rose played ends)
+
+-- the same of what the reads gave
+pub tells_of_reads : (p : List ℕ → Played) (status : ℕ) (t : List ℕ) (reads reads' : Option (List (List ℕ))) (mid held : Option (List ℕ)) (faults faults' : ℕ) (end : PlayEnd)
+    → (end ≡ ReadFault → HasRisen faults faults') → OfReads reads reads' (λ o rest. PlaysOut p end o t (Some rest) mid) → EndsTo end status mid held
+    → OfReads reads reads' (λ o rest. StatusTells p status o t (Some rest) held faults faults')
+tells_of_reads p status t reads reads' mid held faults faults' end rose played ends =
+    (played.0, played.1, λ rest may. tells p status (concat played.0 ++ rest) t (Some rest) mid held faults faults' end rose (played.2 rest may) ends)

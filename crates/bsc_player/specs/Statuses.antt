@@ -2,6 +2,7 @@
 -- language.
 use Rattle.std.specs.Prelude.{◌≡◌, ℕ, ◌⊎◌, List, ◌++◌, Option, Some, None}
 use Rattle.bsc_outside.specs.Faults.{HasRisen, PutsPrefix}
+use Rattle.bsc_text.specs.Gave.{OfReads}
 use Rattle.bsc_player.specs.Playing.{Played}
 use Rattle.bsc_player.specs.Ends.{Taken, whole_lines, lines_read, AcceptsLines, Decides, WritesAll, WritesSome}
 use Rattle.bsc_player.specs.LastLines.{script_line, read_line, memory_line}
@@ -93,3 +94,20 @@ play_world left faults held source sink = record { left = left source; written =
 abbrev pub StatusSays : (List ℕ → Played) → PlayWorld → PlayWorld → ℕ → Type 0
 StatusSays p before after status = (o t : List ℕ) → before.left ≡ Some o → before.written ≡ Some t
     → StatusTells p status o t after.left after.written before.faults after.faults
+
+-- The same where the source may not tell what it has left: what its reads gave, and what was written, each as far as it
+-- is told; and the source's count of faults.
+pub record ReadWorld : Type 0 where
+  pub reads : Option (List (List ℕ))
+  pub written : Option (List ℕ)
+  pub faults : ℕ
+
+-- that of a source and a sink, by what those of their types tell
+abbrev pub read_world : {S K : Type 0} → (S → Option (List (List ℕ))) → (S → ℕ) → (K → Option (List ℕ)) → S → K → ReadWorld
+read_world reads faults held source sink = record { reads = reads source; written = held sink; faults = faults source }
+
+-- What the status of a run says of what its reads gave and of whatever is left behind it, where the sink told before what
+-- it held.
+abbrev pub StatusSaysOfReads : (List ℕ → Played) → ReadWorld → ReadWorld → ℕ → Type 0
+StatusSaysOfReads p before after status = (t : List ℕ) → before.written ≡ Some t
+    → OfReads before.reads after.reads (λ o rest. StatusTells p status o t (Some rest) after.written before.faults after.faults)

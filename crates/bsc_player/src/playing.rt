@@ -4,6 +4,7 @@ ghost use Rattle.bsc_player.specs.Faults.{RisesIf};
 ghost use Rattle.bsc_player.specs.Playing.{played_of};
 ghost use Rattle.bsc_player.specs.Languages.{StepsTo};
 ghost use Rattle.bsc_player.specs.Ends.{PlaysOut};
+ghost use Rattle.bsc_text.specs.Gave.{OfReads};
 
 use crate::collecting::{end_of, hand_over, relieve, stop};
 use crate::language::{Language, LineFault};
@@ -54,6 +55,13 @@ pub fn play_lines<L: Language, S: Source, K: Sink>(
     ensures played { (s : L.State) (o t : List ℕ) → L.stands_for language.old s →
         S.left source.old ≡ Some o → K.held sink.old ≡ Some t →
         PlaysOut (played_of L.means s) result o t (S.left source.new) (K.held sink.new) }
+
+    // The same of what the reads gave and of whatever is left behind it, as no source can tell what is still to come.
+    ensures took { (s : L.State) (t : List ℕ) → L.stands_for language.old s → K.held sink.old ≡ Some t →
+        OfReads (S.reads source.old) (S.reads source.new)
+        (λ o rest. PlaysOut (played_of L.means s) result o t (Some rest) (K.held sink.new)) }
+
+    // Faults of the source and the sink are counted.
     ensures read_fault { RisesIf result PlayEnd.ReadFault (S.faults source.old) (S.faults source.new) }
     ensures write_fault { RisesIf result PlayEnd.WriteFault (K.faults sink.old) (K.faults sink.new) }
     ensures reads_later { S.faults source.old ≤ S.faults source.new }

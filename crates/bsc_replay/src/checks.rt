@@ -2,6 +2,7 @@
 ghost use Rattle.std.specs.Prelude.{◌≡◌, ◌≤◌, ℕ, List, ⊤, Some, None};
 ghost use Rattle.bsc_player.specs.Ends.{PlaysOut, AcceptsLines};
 ghost use Rattle.bsc_player.specs.Faults.{RisesIf};
+ghost use Rattle.bsc_text.specs.Gave.{OfReads};
 ghost use Rattle.bsc_replay.specs.Checks.{checking, check_of};
 
 use crate::answering::put_verdict;
@@ -58,6 +59,8 @@ impl Language for Checks {
 pub fn check<S: Source, K: Sink>(alloc: Global, source: &mut S, sink: &mut K) -> PlayEnd
     ensures checked { (o t : List ℕ) → S.left source.old ≡ Some o → K.held sink.old ≡ Some t →
         PlaysOut check_of result o t (S.left source.new) (K.held sink.new) }
+    ensures took { (t : List ℕ) → K.held sink.old ≡ Some t → OfReads (S.reads source.old) (S.reads source.new)
+        (λ o rest. PlaysOut check_of result o t (Some rest) (K.held sink.new)) }
 
     // An input may end anywhere: where its lines are accepted, none is refused.
     ensures accepts { (o : List ℕ) → AcceptsLines check_of o → (check_of o).refused ≡ None }

@@ -2,6 +2,7 @@
 ghost use Rattle.std.specs.Prelude.{◌≡◌, ◌≤◌, ℕ, List, Some};
 ghost use Rattle.bsc_player.specs.Ends.{PlaysOut};
 ghost use Rattle.bsc_player.specs.Faults.{RisesIf};
+ghost use Rattle.bsc_text.specs.Gave.{OfReads};
 ghost use Rattle.bsc_script.specs.Scripts.{replay_of};
 
 use bsc_outside::{Sink, Source};
@@ -17,6 +18,8 @@ use std::alloc::Global;
 pub fn replay<S: Source, K: Sink>(alloc: Global, source: &mut S, sink: &mut K) -> PlayEnd
     ensures replayed { (o t : List ℕ) → S.left source.old ≡ Some o → K.held sink.old ≡ Some t →
         PlaysOut replay_of result o t (S.left source.new) (K.held sink.new) }
+    ensures took { (t : List ℕ) → K.held sink.old ≡ Some t → OfReads (S.reads source.old) (S.reads source.new)
+        (λ o rest. PlaysOut replay_of result o t (Some rest) (K.held sink.new)) }
     ensures read_fault { RisesIf result PlayEnd.ReadFault (S.faults source.old) (S.faults source.new) }
     ensures write_fault { RisesIf result PlayEnd.WriteFault (K.faults sink.old) (K.faults sink.new) }
     ensures reads_later { S.faults source.old ≤ S.faults source.new }

@@ -4,3 +4,4 @@ pub mod Reading
 pub mod Spelling
 pub mod Spending
 pub mod WorkedText
+pub mod Taking

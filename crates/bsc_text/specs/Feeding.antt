@@ -6,6 +6,7 @@ use Rattle.bsc_text.specs.declared.bounds.TheConstants.{CHUNK_LEN, MAX_INPUT_LEN
 use Rattle.bsc_text.specs.declared.feed.NextLine.{NextLine}
 use Rattle.bsc_text.specs.declared.feed.NextLine.TheVariants.{Line, More, End, Refused, NoMemory}
 use Rattle.bsc_text.specs.declared.feed.Feed.{Feed}
+use Rattle.bsc_text.specs.Gave.{Gave, has_end}
 use Rattle.bsc_text.specs.Lines.{pieces_of, line_in, is_too_big, has_no_lf}
 
 -- The octets that a feed has read and hasn't given yet: the front of a line, and then the rest of the last chunk.
@@ -86,3 +87,10 @@ pub record Fills (old new : Feed) : Type 0 where
   pub ended : new.ended ≡ true → chunk ≡ []
   pub count : new.count ≡ old.count
   pub less : fuel new < fuel old
+
+-- A read gave this chunk, which comes behind what was read before; the feed has ended where it is empty.
+pub record Takes (old new : Feed) (before after : Option (List (List ℕ))) : Type 0 where
+  pub chunk : List ℕ
+  pub gave : Gave before after (chunk ∷ [])
+  pub grown : unread new ≡ unread old ++ chunk
+  pub ended : new.ended ≡ has_end (chunk ∷ [])

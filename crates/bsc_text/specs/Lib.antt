@@ -2,3 +2,4 @@ pub mod Lines
 pub mod Words
 pub mod Grammar
 pub mod Feeding
+pub mod Gave

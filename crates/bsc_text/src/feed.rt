@@ -127,7 +127,8 @@ impl Feed {
     ghost use Rattle.std.specs.Prelude.{IsErr, length, take, drop};
     ghost use Rattle.std.specs.Io.KnownBytes.{Keeps, IsAtEnd};
     ghost use Rattle.bsc_outside.specs.Faults.{HasRisen};
-    ghost use Rattle.bsc_text.specs.Feeding.{unread, rest_of, IsUsedUp, Gives, Feeds, Fills, fuel};
+    ghost use Rattle.bsc_text.specs.Feeding.{unread, rest_of, IsUsedUp, Gives, Feeds, Fills, Takes, fuel};
+    ghost use Rattle.bsc_text.specs.Gave.{Gave};
 
     /// A feed that has read nothing yet. It takes room for one chunk.
     pub fn make(alloc: Global) -> Result<Feed, NoMemory>
@@ -152,6 +153,10 @@ impl Feed {
         ensures filled { OnOk result (Fills self.old self.new) }
         ensures kept { Keeps (rest_of self.old (S.left source.old)) (rest_of self.new (S.left source.new)) }
         ensures ended { self.new.ended ≡ true → IsAtEnd (S.left source.new) }
+
+        // What the read gave is what came, where the source tells what it gave.
+        ensures took { OnOk result (Takes self.old self.new (S.reads source.old) (S.reads source.new)) }
+        ensures gave_none { OnErr result (Gave (S.reads source.old) (S.reads source.new) []) }
 
         // A fault leaves what was read as it was, and the chunk may be read once more.
         ensures failed { IsErr result → HasRisen (S.faults source.old) (S.faults source.new) }

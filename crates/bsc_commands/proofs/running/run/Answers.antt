@@ -8,8 +8,8 @@ use Rattle.bsc_words.specs.declared.fault.WordsFault.{WordsFault}
 use Rattle.bsc_words.specs.declared.fault.WordsFault.TheVariants.{Refused}
 use Rattle.bsc_words.specs.Read.{asked_in}
 use Rattle.bsc_words.specs.Words.{AskedOf, audit, check, hub, node, replay, seen, simulate}
-use Rattle.bsc_commands.proofs.Reading.{ran_out, unaudited, unread, workers_fit}
-use Rattle.bsc_commands.proofs.Sending.{writes_what_was_sent}
+use Rattle.bsc_commands.proofs.Reading.{ran_out, unaudited, unaudited_of_reads, unread, unread_of_reads, workers_fit}
+use Rattle.bsc_commands.proofs.Sending.{reads_write_what_was_sent, writes_what_was_sent}
 use Rattle.bsc_commands.proofs.running.run.Goals as goal
 
 said : (read : Option AskedOf) (answer : Result Asked WordsFault) (a : Asked) → answer ≡ Ok a → IfOk answer (λ x. read ≡ Some (seen x)) → read ≡ Some (seen a)
@@ -97,3 +97,52 @@ returns-in-Err-clause-finished g c path script named is =
     let out = ran_out c.in-Err.fault (asked_in c.args.read.now) (node path script) c.end_unasked.result
     (g.K.Sink.held c.args.outside.now.sink) (g.K.Sink.held c.end_unasked.new.sink) none c.end_unasked.ensures.ran_out named in
     absurd (omega (arith, out.0, is))
+
+pub returns-in-Err-clause-replayed_reads : goal.returns-in-Err-clause-replayed_reads
+returns-in-Err-clause-replayed_reads g c named t held =
+    let none = λ (e : c.in-Err.fault ≡ Refused). c.args.read.now.refused (c.in-Err.is ∙ ap Err e) in
+    let out = ran_out c.in-Err.fault (asked_in c.args.read.now) replay c.end_unasked.result
+    (g.K.Sink.held c.args.outside.now.sink) (g.K.Sink.held c.end_unasked.new.sink) none c.end_unasked.ensures.ran_out named in
+    unread_of_reads replay_of c.end_unasked.result t (g.S.Source.reads c.args.outside.now.source) (g.K.Sink.held c.args.outside.now.sink) (g.K.Sink.held c.end_unasked.new.sink)
+    (g.S.Source.faults c.args.outside.now.source) (g.S.Source.faults c.args.outside.now.source) held out
+
+pub returns-in-Err-clause-simulated_reads : goal.returns-in-Err-clause-simulated_reads
+returns-in-Err-clause-simulated_reads g c named t held =
+    let none = λ (e : c.in-Err.fault ≡ Refused). c.args.read.now.refused (c.in-Err.is ∙ ap Err e) in
+    let out = ran_out c.in-Err.fault (asked_in c.args.read.now) simulate c.end_unasked.result
+    (g.K.Sink.held c.args.outside.now.sink) (g.K.Sink.held c.end_unasked.new.sink) none c.end_unasked.ensures.ran_out named in
+    unread_of_reads simulate_of c.end_unasked.result t (g.S.Source.reads c.args.outside.now.source) (g.K.Sink.held c.args.outside.now.sink) (g.K.Sink.held c.end_unasked.new.sink)
+    (g.S.Source.faults c.args.outside.now.source) (g.S.Source.faults c.args.outside.now.source) held out
+
+pub returns-in-Err-clause-checked_reads : goal.returns-in-Err-clause-checked_reads
+returns-in-Err-clause-checked_reads g c named t held =
+    let none = λ (e : c.in-Err.fault ≡ Refused). c.args.read.now.refused (c.in-Err.is ∙ ap Err e) in
+    let out = ran_out c.in-Err.fault (asked_in c.args.read.now) check c.end_unasked.result
+    (g.K.Sink.held c.args.outside.now.sink) (g.K.Sink.held c.end_unasked.new.sink) none c.end_unasked.ensures.ran_out named in
+    unread_of_reads check_of c.end_unasked.result t (g.S.Source.reads c.args.outside.now.source) (g.K.Sink.held c.args.outside.now.sink) (g.K.Sink.held c.end_unasked.new.sink)
+    (g.S.Source.faults c.args.outside.now.source) (g.S.Source.faults c.args.outside.now.source) held out
+
+pub returns-in-Err-clause-delivered_reads : goal.returns-in-Err-clause-delivered_reads
+returns-in-Err-clause-delivered_reads g c t named held =
+    let none = λ (e : c.in-Err.fault ≡ Refused). c.args.read.now.refused (c.in-Err.is ∙ ap Err e) in
+    let out = ran_out c.in-Err.fault (asked_in c.args.read.now) simulate c.end_unasked.result
+    (g.K.Sink.held c.args.outside.now.sink) (g.K.Sink.held c.end_unasked.new.sink) none c.end_unasked.ensures.ran_out named in
+    reads_write_what_was_sent c.end_unasked.result t (g.S.Source.reads c.args.outside.now.source) (g.S.Source.reads c.args.outside.now.source) (g.K.Sink.held c.end_unasked.new.sink)
+    (g.S.Source.faults c.args.outside.now.source) (g.S.Source.faults c.args.outside.now.source)
+    (unread_of_reads simulate_of c.end_unasked.result t (g.S.Source.reads c.args.outside.now.source) (g.K.Sink.held c.args.outside.now.sink) (g.K.Sink.held c.end_unasked.new.sink)
+    (g.S.Source.faults c.args.outside.now.source) (g.S.Source.faults c.args.outside.now.source) held out)
+
+pub returns-in-Ok-clause-delivered_reads : goal.returns-in-Ok-clause-delivered_reads
+returns-in-Ok-clause-delivered_reads g c t named held =
+    let read = c.args.read.now in
+    let asked = said (asked_in read) read.asked c.in-Ok.asked c.in-Ok.is read.ok in
+    reads_write_what_was_sent c.run_asked.result t (g.S.Source.reads c.args.outside.now.source) (g.S.Source.reads c.run_asked.new.outside.source) (g.K.Sink.held c.run_asked.new.outside.sink)
+    (g.S.Source.faults c.args.outside.now.source) (g.S.Source.faults c.run_asked.new.outside.source)
+    (c.run_asked.ensures.simulated_reads (asks_same (asked_in read) (seen c.in-Ok.asked) simulate asked named) t held)
+
+pub returns-in-Err-clause-audited_reads : goal.returns-in-Err-clause-audited_reads
+returns-in-Err-clause-audited_reads g c named =
+    let none = λ (e : c.in-Err.fault ≡ Refused). c.args.read.now.refused (c.in-Err.is ∙ ap Err e) in
+    unaudited_of_reads c.end_unasked.result (g.S.Source.reads c.args.outside.now.source) (g.K.Sink.held c.args.outside.now.sink) (g.K.Sink.held c.end_unasked.new.sink)
+    (ran_out c.in-Err.fault (asked_in c.args.read.now) audit c.end_unasked.result
+    (g.K.Sink.held c.args.outside.now.sink) (g.K.Sink.held c.end_unasked.new.sink) none c.end_unasked.ensures.ran_out named)

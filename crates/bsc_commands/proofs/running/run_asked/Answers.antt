@@ -22,10 +22,10 @@ pub returns-in-Hub-clause-hub : goal.returns-in-Hub-clause-hub
 returns-in-Hub-clause-hub g c path sessions journal made named kept =
     let A = g.A.Acceptor in
     let P = g.P.Spawner in
-    let before : HubWorld g.row.L.Denot g.row.C.Denot g.row.N.Denot = record { links = A.left c.args.outside.now.parts.acceptor; waits = A.waits c.args.outside.now.parts.acceptor; port = A.bound c.args.outside.now.parts.acceptor; faults = A.faults c.args.outside.now.parts.acceptor; jobs = P.jobs c.args.outside.now.parts.spawner; out = P.out c.args.outside.now.parts.spawner; unstarted = P.faults c.args.outside.now.parts.spawner; unbegun = g.J.Journals.faults c.args.outside.now.parts.journals; written = g.K.Sink.held c.args.outside.now.sink } in
-    let after : HubWorld g.row.L.Denot g.row.C.Denot g.row.N.Denot = record { links = A.left c.run_hub.new.parts.acceptor; waits = A.waits c.run_hub.new.parts.acceptor; port = A.bound c.run_hub.new.parts.acceptor; faults = A.faults c.run_hub.new.parts.acceptor; jobs = P.jobs c.run_hub.new.parts.spawner; out = P.out c.run_hub.new.parts.spawner; unstarted = P.faults c.run_hub.new.parts.spawner; unbegun = g.J.Journals.faults c.run_hub.new.parts.journals; written = g.K.Sink.held c.run_hub.new.sink } in
+    let before : HubWorld g.row.L.Denot g.row.C.Denot g.row.N.Denot = record { links = A.left c.args.outside.now.parts.acceptor; came = A.came c.args.outside.now.parts.acceptor; waits = A.waits c.args.outside.now.parts.acceptor; port = A.bound c.args.outside.now.parts.acceptor; faults = A.faults c.args.outside.now.parts.acceptor; jobs = P.jobs c.args.outside.now.parts.spawner; given_back = P.ends c.args.outside.now.parts.spawner; out = P.out c.args.outside.now.parts.spawner; unstarted = P.faults c.args.outside.now.parts.spawner; unbegun = g.J.Journals.faults c.args.outside.now.parts.journals; written = g.K.Sink.held c.args.outside.now.sink } in
+    let after : HubWorld g.row.L.Denot g.row.C.Denot g.row.N.Denot = record { links = A.left c.run_hub.new.parts.acceptor; came = A.came c.run_hub.new.parts.acceptor; waits = A.waits c.run_hub.new.parts.acceptor; port = A.bound c.run_hub.new.parts.acceptor; faults = A.faults c.run_hub.new.parts.acceptor; jobs = P.jobs c.run_hub.new.parts.spawner; given_back = P.ends c.run_hub.new.parts.spawner; out = P.out c.run_hub.new.parts.spawner; unstarted = P.faults c.run_hub.new.parts.spawner; unbegun = g.J.Journals.faults c.run_hub.new.parts.journals; written = g.K.Sink.held c.run_hub.new.sink } in
     of_hub (λ (p : Text) (n : Option ℕ) (j : Option Text). (v : HubSettings) × (policy : Option Policy) × IsSettled (g.F.Files.holds c.args.outside.now.files p) v policy
-    × HubRuns (telling (Worked g.L.Link.talk g.L.Link.faults g.C.Clock.readings g.N.Sink.held g.N.Sink.faults) g.J.Journals.begins g.N.Sink.held g.N.Sink.faults) (record { settings = v; policy = policy; sessions = n; prefix = j }) c.run_hub.new.place before after c.run_hub.result)
+    × HubRuns (telling (Worked g.L.Link.talk g.L.Link.faults g.L.Link.notices g.C.Clock.readings g.N.Sink.held g.N.Sink.faults) g.J.Journals.begins g.N.Sink.held g.N.Sink.faults) (record { settings = v; policy = policy; sessions = n; prefix = j }) c.run_hub.new.place before after c.run_hub.result)
     c.in-Hub.path.now path c.in-Hub.sessions sessions (option_map (λ q. q.now) c.in-Hub.journal) journal (sym (ap seen c.in-Hub.is) ∙ named) (c.run_hub.ensures.runs made kept)
 
 pub returns-in-Hub-clause-no_hub : goal.returns-in-Hub-clause-no_hub
