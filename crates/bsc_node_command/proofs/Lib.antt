@@ -3,3 +3,4 @@ mod Bound
 mod Defined
 mod Statuses
 mod Ended
+mod Ran

@@ -1,3 +1,4 @@
 pub mod Lines
 pub mod Settled
 pub mod Comes
+pub mod Ran

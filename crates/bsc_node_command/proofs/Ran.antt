@@ -1,0 +1,27 @@
+-- The links of a node that was run to its end were used as its log says.
+use Rattle.std.proofs.Common.{List, [], Option, is_some, Result, Ok, Err, IfOk}
+use Rattle.bsc_edge.specs.declared.said.Said.{Said}
+use Rattle.bsc_node.specs.declared.node_event.NodeEvent.{NodeEvent}
+use Rattle.bsc_node_run.specs.declared.halt.Halt.{Halt}
+use Rattle.bsc_node_run.specs.declared.run_end.RunEnd.{RunEnd}
+use Rattle.bsc_node_run.specs.Drawing.{GoesDrawing, at_rest}
+use Rattle.bsc_node_run.specs.Moments.{run_moment}
+use Rattle.bsc_node_run.specs.Running.{Run}
+use Rattle.bsc_node_laws.specs.Courses.{GoesAsDefined}
+use Rattle.bsc_node_links.specs.Using.{LinksAreUsed}
+use Rattle.bsc_node_links.proofs.Walking.{script_runs_use_links}
+use Rattle.bsc_node_command.specs.Comes.{made_by}
+use Rattle.bsc_node_command.specs.Ran.{RanNodesUseLinks, outside_of}
+
+pub ran_nodes_use_links : {L W : Type 0} (talk : L → Option (List Said)) (drawn : NodeEvent → W → W → Type 0) → RanNodesUseLinks talk drawn
+ran_nodes_use_links {L} {W} talk drawn asked before after s x = by x.end x.run
+  where
+    by : (end : Result RunEnd Halt)
+        → IfOk end (λ e. Run (GoesDrawing (GoesAsDefined (made_by asked.settings)) drawn) talk (is_some asked.settings.direct_port) e asked.settings.turns x.lines
+        (run_moment (at_rest [] before.random) before.dialled before.written x.door before.readings)
+        (run_moment (at_rest x.last after.random) after.dialled x.written after.door after.readings))
+        → IfOk end (λ e. LinksAreUsed talk (outside_of before x.door before.written) (outside_of after after.door x.written) x.last)
+    by (Ok e) run =
+        script_runs_use_links talk drawn (made_by asked.settings) asked.script x.lines x.reads (is_some asked.settings.direct_port) e asked.settings.turns
+        before.random after.random (outside_of before x.door before.written) (outside_of after after.door x.written) x.last run
+    by (Err halt) run = tt

@@ -1,0 +1,16 @@
+-- How the links of a node that was run were used.
+use Rattle.std.specs.Prelude.{ℕ, List, Option, IfOk}
+use Rattle.bsc_edge.specs.declared.said.Said.{Said}
+use Rattle.bsc_node.specs.declared.node_event.NodeEvent.{NodeEvent}
+use Rattle.bsc_node_run.specs.Worlds.{Admitting}
+use Rattle.bsc_node_links.specs.Using.{LinksAreUsed, Outside}
+use Rattle.bsc_node_command.specs.Comes.{NodeAsked, NodeRan, NodeWorld}
+
+-- what of a world is outside the run of a node
+abbrev pub outside_of : {L W : Type 0} → NodeWorld L W → Admitting L → Option (List ℕ) → Outside L
+outside_of world door written = record { dialled = world.dialled; written = written; door = door; readings = world.readings }
+
+-- Where the run of a node came to its end, its links were used as the log of that run says.
+abbrev pub RanNodesUseLinks : {L W : Type 0} → (L → Option (List Said)) → (NodeEvent → W → W → Type 0) → Type 0
+RanNodesUseLinks {L} {W} talk drawn = (asked : NodeAsked) (before after : NodeWorld L W) (s : ℕ) (x : NodeRan talk drawn asked before after s)
+    → IfOk x.end (λ e. LinksAreUsed talk (outside_of before x.door before.written) (outside_of after after.door x.written) x.last)

@@ -1,0 +1,12 @@
+//! What is proved of the links of a node that was run, carried by a function that does nothing.
+ghost use Rattle.bsc_node_run.specs.Drawing.{Draws};
+ghost use Rattle.bsc_node_command.specs.Ran.{RanNodesUseLinks};
+
+use bsc_edge::Link;
+use bsc_node_run::Words;
+
+/// Where the run of a node came to its end, with status 0 or 8, its links were used as the log of that run says: each gave just the
+/// messages that the log says it gave, and the first of those that the log says were put on it were put on it.
+pub fn ran_nodes_use_links<L: Link, W: Words>()
+    ensures { RanNodesUseLinks L.talk (Draws W.gives W.faults) }
+{}

@@ -1,0 +1,5 @@
+pub mod Talks
+pub mod Lives
+pub mod Coming
+pub mod Using
+pub mod Telling

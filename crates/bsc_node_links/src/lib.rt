@@ -1,0 +1,9 @@
+//! What became of the links of a node that was run: what each told from where it came to where it was let go, by the log of the node.
+//!
+//! Start at `specs/Using.antt`, which says how links are used, by the words of `specs/Lives.antt` and `specs/Talks.antt`; `laws` has
+//! what is proved of it.
+#![tactic(auto)]
+
+mod laws;
+
+pub use laws::{links_are_fresh, links_tell, runs_use_links, script_runs_use_links};
