@@ -1,7 +1,7 @@
 //! What is made of the machine before a run.
 use bsc_edge::{Kind, Places};
 use bsc_octets::NoMemory;
-use bsc_recorders::{DiskNote, KeptFiles, NotedDisk};
+use bsc_recorders::{DiskNote, KeptFiles, NotedDisk, ToldFiles};
 use bsc_sockets::{Door, RealDialer, RealWaiter, real_dialer};
 use std::alloc::Global;
 use std::cell::Cell;
@@ -49,7 +49,7 @@ pub(crate) fn sockets_of<H: Clock + Net + Wait + Eprint + Copy + Drop>(
 /// The files, and the threads' places.
 #[derive(Drop)]
 pub(crate) struct Rooms<H: Files> {
-    pub files: KeptFiles<NotedDisk<H>>,
+    pub files: ToldFiles<KeptFiles<NotedDisk<H>>>,
     /// Why the last file couldn't be read, where it couldn't.
     pub unread: DiskNote,
     pub places: Arc<Places>,
@@ -58,7 +58,7 @@ pub(crate) struct Rooms<H: Files> {
 /// The files of the machine, and places for the threads of sessions.
 pub(crate) fn rooms_of<H: Files + Drop>(rt: H, alloc: Global) -> Result<Rooms<H>, NoMemory> {
     let unread = Rc::new(alloc, Cell::new(None))?;
-    let files = KeptFiles::new(NotedDisk::new(rt, unread.clone()?));
+    let files = ToldFiles::new(KeptFiles::new(NotedDisk::new(rt, unread.clone()?)));
     let places = Places::make(alloc, SESSIONS)?;
     Ok(Rooms {
         files,
