@@ -26,6 +26,7 @@ use crate::tally::{NOTHING, one_if};
 use bsc_history::{Conns, Counts, End, Looks, MOST_ROWS, Worn};
 use bsc_octets::NoMemory;
 use std::alloc::Global;
+use thiserror::Error;
 
 /// The reply to a broadcast.
 #[derive(Debug, Drop)]
@@ -48,11 +49,13 @@ pub enum AllReply {
 }
 
 /// Why a broadcast made no entry.
-#[derive(Clone, Copy, Debug, PartialEq, Eq)]
+#[derive(Clone, Copy, Debug, PartialEq, Eq, Error)]
 pub enum AllRefusal {
     /// The hub has made as many calls as it may.
+    #[error("the hub has made as many calls as it may")]
     Worn(Worn),
     /// Memory ran out, and nothing has changed.
+    #[error("no memory for the copies of a broadcast")]
     NoMemory,
 }
 

@@ -29,6 +29,7 @@ use crate::tally::{NOTHING, one_if};
 use bsc_history::{Connection, Counts, End, Refusal, Worn};
 use bsc_octets::{DeviceId, Identity, Vmac};
 use bsc_ring::Inlet;
+use thiserror::Error;
 
 /// A new row: its number, and the connection that it replaced.
 #[derive(Clone, Copy, Debug, PartialEq, Eq)]
@@ -38,11 +39,13 @@ pub struct NewRow {
 }
 
 /// Why a connect made no row.
-#[derive(Clone, Copy, Debug, PartialEq, Eq)]
+#[derive(Clone, Copy, Debug, PartialEq, Eq, Error)]
 pub enum NoRow {
     /// The hub has made as many calls as it may; no entry was made.
+    #[error("the hub has made as many calls as it may")]
     Worn(Worn),
     /// The refusal is an entry.
+    #[error("the connect was refused")]
     Refused(Refusal),
 }
 

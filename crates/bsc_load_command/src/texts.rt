@@ -4,7 +4,7 @@ ghost use Rattle.bsc_load_command.specs.Lines.{load_text, octets_text};
 
 use bsc_load::LoadEnd;
 use bsc_octets::NoMemory;
-use bsc_script::put_counts;
+use bsc_script::counts_line;
 use std::alloc::Global;
 
 /// Puts the line of the octets.
@@ -20,8 +20,7 @@ fn put_octets(text: &mut Vec<u8>, alloc: Global, octets: u64) -> Result<(), NoMe
 pub(crate) fn load_text(alloc: Global, end: &LoadEnd) -> Result<Vec<u8>, NoMemory>
     ensures { IfOk result (λ t. t.items ≡ load_text end.now) }
 {
-    let mut text = Vec::new(alloc);
-    put_counts(&mut text, &end.counts)?;
+    let mut text = counts_line(alloc, &end.counts)?.into_vec();
     put_octets(&mut text, alloc, end.octets)?;
     Ok(text)
 }

@@ -11,10 +11,12 @@ abbrev pub word_in : {E : Type 0} → Result ℕ E → Option ℕ
 word_in (Ok word) = Some word
 word_in (Err fault) = None
 
--- The first of some words is given, and the others are left. Where there is none, none is given, and none is left.
-abbrev pub GivesFirst : List ℕ → Option ℕ → List ℕ → Type 0
-GivesFirst words (Some word) left = words ≡ word ∷ left
-GivesFirst words None left = (words ≡ []) × (left ≡ [])
+-- What a call gives of some words. One that is to fail gives none, and all are left. Any other gives the first, and the others
+-- are left; where there is none, it gives none, and none is left.
+abbrev pub GivesNext : Bool → List ℕ → Option ℕ → List ℕ → Type 0
+GivesNext true words word left = (word ≡ None) × (left ≡ words)
+GivesNext false words (Some word) left = words ≡ word ∷ left
+GivesNext false words None left = (words ≡ []) × (left ≡ [])
 
 -- A node, who draws its words, and whether the node waits for one.
 pub record Drawing (N W : Type 0) : Type 0 where

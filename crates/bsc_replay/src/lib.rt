@@ -19,6 +19,7 @@ mod script;
 
 pub use answering::put_verdict;
 pub use bsc_player::PlayEnd as ReplayEnd;
+pub use bsc_script::counts_line;
 pub use checks::check;
 pub use line::{Line, read_line};
 pub use script::replay;

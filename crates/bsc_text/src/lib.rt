@@ -9,6 +9,7 @@ mod bounds;
 mod feed;
 mod grammar;
 mod octets;
+mod text;
 mod words;
 
 pub use bounds::{CHUNK_LEN, LATEST, MAX_INPUT_LEN, MAX_LINE_LEN, MAX_NAME_LEN};
@@ -17,4 +18,5 @@ pub use grammar::{
     is_name, read_device, read_identity_words, read_maximum, read_number, read_vmac,
 };
 pub use octets::{OctetsFault, copy_of, read_octets};
+pub use text::Text;
 pub use words::{begins_comment, joined, next_word};
