@@ -25,7 +25,7 @@ pub use call::SlotCall;
 pub use direct::Direct;
 pub use establish::Establish;
 pub use laws::{
-    a_replaced_slot_stays_claimed, established_slots_are_apart,
+    a_node_has_64_slots, a_replaced_slot_stays_claimed, established_slots_are_apart,
     no_slot_is_established_for_the_broadcast,
 };
 pub use path::route;

@@ -7,6 +7,7 @@
 mod arrival;
 mod dialled;
 mod hold;
+mod laws;
 mod limits;
 mod parcel;
 mod step_refusal;
@@ -19,6 +20,7 @@ mod world_step;
 pub use arrival::Arrival;
 pub use dialled::Dialled;
 pub use hold::Hold;
+pub use laws::{a_network_has_64_nodes, nodes_wait_2_to_30_seconds};
 pub use limits::{GREATEST_WAIT_MS, LEAST_WAIT_MS, LINKS, NODES, STEPS};
 pub use parcel::{Content, Parcel};
 pub use step_refusal::StepRefusal;

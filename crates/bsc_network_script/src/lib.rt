@@ -5,10 +5,12 @@
 //! `specs/Written.antt`. `bsc_simulate` plays scripts.
 #![tactic(auto)]
 
+mod laws;
 mod limits;
 mod line;
 mod reading;
 
+pub use laws::{hubs_have_256_rows, nodes_take_1600_octets, tries_2_to_the_63_steps};
 pub use limits::{MAX_BVLC, MAX_NPDU, OUTBOX, ROWS};
 pub use line::Line;
 pub use reading::read_line;

@@ -2,6 +2,7 @@
 use bsc_edge::{Kind, Places};
 use bsc_octets::NoMemory;
 use bsc_recorders::{DiskNote, KeptFiles, NotedDisk, ToldFiles};
+use bsc_serve::SESSIONS;
 use bsc_sockets::{Door, RealDialer, RealWaiter, real_dialer};
 use std::alloc::Global;
 use std::cell::Cell;
@@ -9,28 +10,19 @@ use std::env::Env;
 use std::fs::Files;
 use std::io::{Eprint, Stderr};
 use std::net::Net;
+use std::random::RandomSource;
 use std::rc::Rc;
 use std::sync::{Arc, Wait};
 use std::time::Clock;
 
-/// At most so many sessions run at once.
-const SESSIONS: u64 = 2048;
-
-/// What takes and makes links.
-#[derive(Drop)]
-pub(crate) struct Sockets<H: Clock + Net + Wait + Eprint + Copy + Drop> {
-    pub waiter: RealWaiter<H>,
-    pub dialer: RealDialer<H>,
-    pub door: Door<H>,
-}
-
-/// What takes and makes links of this kind. A log of them is written there, where the environment asks for one.
-pub(crate) fn sockets_of<H: Clock + Net + Wait + Eprint + Copy + Drop>(
+/// What waits for, makes and takes links of this kind. A log of them is written there, where the environment asks for one. (A struct of
+/// these would have to repeat what its dialer is.)
+pub(crate) fn sockets_of<H: Clock + Net + RandomSource + Wait + Eprint + Copy + Drop>(
     rt: H,
     alloc: Global,
     kind: Kind,
     stderr: Stderr,
-) -> Result<Sockets<H>, NoMemory> {
+) -> Result<(RealWaiter<H>, RealDialer<H>, Door<H>), NoMemory> {
     let Ok(waiter) = RealWaiter::of(rt, alloc, kind) else {
         return Err(NoMemory);
     };
@@ -39,11 +31,7 @@ pub(crate) fn sockets_of<H: Clock + Net + Wait + Eprint + Copy + Drop>(
     };
     let dialer = real_dialer(rt, alloc, of_links)?;
     let door = Door::new(rt, alloc, kind, of_gate).logged_at(stderr);
-    Ok(Sockets {
-        waiter,
-        dialer,
-        door,
-    })
+    Ok((waiter, dialer, door))
 }
 
 /// The files, and the threads' places.

@@ -24,6 +24,8 @@ use Rattle.bsc_resolve.specs.Standing.{Agrees, ResolveStands, IsAsked, IsAskRefu
 use Rattle.bsc_resolve.proofs.Finding.{find_placed, awaiting_is, awaiting_none, KeepsVmac, first_same, first_other, vmacs_first, full_first, entry_filtered, apart_filtered, full_filtered, held_question, held_uris, entry_ticked, vmacs_ticked, ticked_question, ticked_uris, is_among, is_held_kept, length_vmacs}
 use Rattle.bsc_resolve.proofs.OneMore.{unless_ends, question-more, question-asked, learnt-more, held_spoken}
 use Rattle.bsc_octets.proofs.Common.{vmac_laws, vmac_same}
+use Rattle.bsc_lemmas.proofs.Booleans.{or_left}
+use Rattle.bsc_lemmas.proofs.Options.{none_if}
 use Rattle.bsc_lemmas.proofs.Lists.{position-none as none_found}
 
 -- ---- one VMAC changes
@@ -332,3 +334,14 @@ few_held r wait calls s = subst (λ (n : ℕ). n ≤ ROOM) (held_count r wait ca
 
 pub learnt_stays : (calls : List ResolveCall) (call : ResolveCall) (v : Vmac) → uris_for v call ≡ None → learnt (calls ++ call ∷ []) v ≡ learnt calls v
 learnt_stays calls call v none = learnt-more calls call v ∙ ap (λ (o : Option (List ℕ)). option_or o (learnt calls v)) none
+
+-- ---- how many are held
+
+pub refused_at_256 : (wait : ℕ) (calls : List ResolveCall) (v : Vmac) → is_held wait calls v ≡ false → held wait calls ≡ 256 → ask_refusal wait calls v ≡ Some (Full 256)
+refused_at_256 wait calls v new many =
+    ap (λ (h : Bool). refusal_of h (held wait calls) (question wait calls v)) new ∙ ap (λ (n : ℕ). refusal_of false n (question wait calls v)) many
+
+pub asked_at_255 : (wait : ℕ) (calls : List ResolveCall) (v : Vmac) → is_held wait calls v ≡ false → held wait calls ≡ 255 → ask_refusal wait calls v ≡ None
+asked_at_255 wait calls v new many =
+    ap (λ (h : Bool). refusal_of h (held wait calls) (question wait calls v)) new ∙ ap (λ (n : ℕ). refusal_of false n (question wait calls v)) many
+    ∙ ap (option_map (λ (q : Question). Pending q.id)) (none_if (question wait calls v) (or_left (is_some (question wait calls v)) (is_some (learnt calls v)) new))

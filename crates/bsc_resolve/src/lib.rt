@@ -18,6 +18,6 @@ mod resolve;
 pub use ask_refusal::AskRefusal;
 pub use bounds::ROOM;
 pub use call::ResolveCall;
-pub use laws::{at_most_room_are_held, what_is_learnt_stays};
+pub use laws::{a_node_holds_256_vmacs, at_most_room_are_held, what_is_learnt_stays};
 pub use question::Question;
 pub use resolve::Resolve;

@@ -16,6 +16,7 @@ mod emptying;
 mod forwarding;
 mod holding;
 mod hub_line;
+mod laws;
 mod line;
 mod naming;
 mod noting;
@@ -32,7 +33,8 @@ mod texts;
 mod ticking;
 
 pub use bounds::{CONNECT_WAIT_MS, DISCONNECT_WAIT_MS, HEARTBEAT_MS, MOST_NAMES};
-pub use counting::put_counts;
+pub use counting::{counts_line, put_counts};
+pub use laws::opens_2048_names;
 pub use line::Line;
 pub use reading::read_line;
 pub use script::Script;

@@ -1,6 +1,8 @@
 //! What follows of a hub that was served. The functions do nothing: their contracts are the laws, and a caller that calls one
 //! has the law at hand.
+ghost use Rattle.std.specs.Prelude.{◌≡◌};
 ghost use Rattle.bsc_session.specs.Jobs.{Worked};
+ghost use Rattle.bsc_serve.specs.declared.bounds.TheConstants.{SESSIONS};
 ghost use Rattle.bsc_serve.specs.Alone.{AllButStopAreOfJobs, EntriesAreOfJobs, JobsAreApart, JobsEndAtLast, JobsHaveEnded, NothingBehindStop, SeenAreOfJobs, ServingIsAlone};
 
 use bsc_edge::{Clock, Journals, Link};
@@ -46,4 +48,9 @@ pub fn nothing_behind_stop<L: Link, C: Clock, N: Sink, J: Journals<N>>()
 /// No two jobs of a hub that was served have passes of one number.
 pub fn jobs_are_apart<L: Link, C: Clock, N: Sink, J: Journals<N>>()
     ensures { JobsAreApart (Worked L.talk L.faults L.notices C.readings N.held N.faults) J.begins }
+{}
+
+/// The places that the program has are for 2,048 sessions at once.
+pub fn there_are_2048_places()
+    ensures { SESSIONS ≡ 2048 }
 {}
