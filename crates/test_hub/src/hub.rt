@@ -4,6 +4,7 @@ ghost use Rattle.bsc_hub.specs.Passing.{IsCaller, IsOwnAs};
 ghost use Rattle.bsc_hub.specs.Testing.{vmac_at};
 
 mod calls;
+mod courses;
 mod threads;
 
 use crate::crossing::{is_sent, is_shared};

@@ -11,6 +11,8 @@ use bsc_turn::{Guard, NumbersSpent, Pass, Turn, two_callers};
 use std::marker::Brand;
 use std::sync::Wait;
 use std::test::Fail;
+use std::thread;
+use std::thread::Threads;
 
 /// A state that counts the entries of its history.
 #[derive(Drop)]
@@ -120,6 +122,60 @@ fn two_callers_count(rt: HostRuntime) -> Result<(), Fail> {
     assert!(rt; count_one(&rt, &turn, &mut other) == Some(1));
     assert!(rt; count_one(&rt, &turn, &mut pass) == Some(2));
     assert!(rt; count_of(&rt, &turn, pass, other) == 3);
+    Ok(())
+}
+
+/// Counts so often. Whether each place is above the one before.
+fn count_often<R: Wait>(rt: &R, turn: &Turn<Counter>, pass: Pass, times: u32) -> (Pass, bool)
+    requires { IsPassOf (λ s. s.about) turn.now pass }
+    ensures { IsPassOf (λ s. s.about) turn.now result.0 }
+{
+    let mut pass = pass;
+    let mut last = None;
+    let mut rise = true;
+    for _ in 0..times {
+        let place = count_one(rt, turn, &mut pass);
+        rise = rise && place > last;
+        last = place;
+    }
+    (pass, rise)
+}
+
+/// Two threads that count so often each: the count, and whether the places of both rise.
+fn count_both<R: Threads + Wait + Sync>(
+    rt: &R,
+    turn: &Turn<Counter>,
+    pass: Pass,
+    other: Pass,
+    times: u32,
+) -> (u64, bool)
+    requires pass { IsPassOf (λ s. s.about) turn.now pass }
+    requires other { IsPassOf (λ s. s.about) turn.now other }
+{
+    let ((pass, one), (other, two)) = thread::join(
+        rt,
+        move || -> (Pass, bool)
+            requires { IsPassOf (λ s. s.about) turn.now pass }
+            ensures { IsPassOf (λ s. s.about) turn.entry.now result.0 }
+        { count_often(rt, turn, pass, times) },
+        move || -> (Pass, bool)
+            requires { IsPassOf (λ s. s.about) turn.now other }
+            ensures { IsPassOf (λ s. s.about) turn.entry.now result.0 }
+        { count_often(rt, turn, other, times) },
+    );
+    (count_of(rt, turn, pass, other), one && two)
+}
+
+/// No entry of two threads is lost, and the places of each rise.
+#[test]
+fn two_threads_count(rt: HostRuntime) -> Result<(), Fail> {
+    let Ok((turn, mut pass)) = Turn::make(rt.alloc(), new_counter(), 2) else {
+        panic!(rt; "no memory");
+    };
+    let Ok(other) = turn.split(&rt, &mut pass) else {
+        panic!(rt; "there is a second number");
+    };
+    assert!(rt; count_both(&rt, &turn, pass, other, 1_000) == (2_000, true));
     Ok(())
 }
 

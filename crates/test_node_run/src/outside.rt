@@ -84,7 +84,7 @@ impl Outside {
             acceptor: MemAcceptor::new(alloc, arriving, row.failing.accepts),
             node: NodeParts {
                 waiter: MemWaiter::new(alloc),
-                random: MemWords::new(row.words),
+                random: MemWords::new(row.words, row.failing.words),
                 dialer: Watched {
                     name: "dialer",
                     inner: MemDialer::new(alloc, dialled, row.failing.dials),

@@ -30,6 +30,8 @@ pub struct Failing {
     /// Of the acceptor: first its port is bound, then it is asked once a turn.
     pub accepts: &'static [u64],
     pub dials: &'static [u64],
+    /// Of the draws of random words.
+    pub words: &'static [u64],
 }
 
 /// A run of the command, and what comes of it.
@@ -64,6 +66,7 @@ pub const NOTHING: Failing = Failing {
     writes: &[],
     accepts: &[],
     dials: &[],
+    words: &[],
 };
 
 /// A run that meets nobody, and in which nothing fails.

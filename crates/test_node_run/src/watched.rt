@@ -1,4 +1,6 @@
 //! An outside of which is noted what is done.
+ghost use Rattle.std.proofs.Common.{refl};
+
 use crate::log::{Deed, Log};
 use bsc_edge::{Clock, Dialer, Incoming, Kind, Link, LinkFault};
 use bsc_octets::NoMemory;
@@ -73,6 +75,8 @@ impl<L, D: Dialer<L>> Dialer<L> for Watched<D> {
     ghost calls = { λ d. D.calls d.inner };
 
     ghost left = { λ d. D.left d.inner };
+
+    ghost came_fresh = { λ _. refl };
 
     fn dial(&mut self, alloc: Global, uri: &[u8], kind: Kind) -> Result<L, LinkFault> {
         self.log.note(Deed::Dial(kind, uri));

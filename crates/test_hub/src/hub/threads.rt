@@ -1,8 +1,5 @@
-//! Four threads on one hub: two take over from each other at one address until the hub is stopped, and two send to it
-//! meanwhile. When all have ended and their passes are one, what they noted is compared: the frames that came at each
-//! connection are, octet by octet, the unicasts that were told as appended there, in the order of the places of their
-//! entries, and the hub has made as many calls as all of them together.
-ghost use Rattle.std.specs.Prelude.{◌≡◌};
+//! Four threads on one hub, which stay at addresses or send, and what they note. `courses` has the tests.
+ghost use Rattle.std.specs.Prelude.{◌≡◌, IfOk};
 ghost use Rattle.bsc_ring.specs.Ends.{outlet_mark};
 ghost use Rattle.bsc_hub.specs.Passing.{IsCaller, IsOwnAs};
 ghost use Rattle.bsc_hub.specs.Testing.{vmac_at};
@@ -11,22 +8,35 @@ use super::{address, enter, new_hub, who};
 use bsc_desk::{OneReply, prepare};
 use bsc_history::{Told, Worn};
 use bsc_hub::{Hub, Pass};
-use bsc_octets::Octets;
+use bsc_octets::{NoMemory, Octets};
 use bsc_ring::{Outlet, Take};
 use std::alloc::Global;
 use std::sync::Wait;
-use std::test::Fail;
 use std::thread;
 use std::thread::Threads;
 
-/// The last octet of the address of the two that receive.
-const RECEIVERS: u8 = 10;
+/// The last octet of the address that all unicasts are sent to.
+pub const RECEIVERS: u8 = 10;
 
-/// How many unicasts each of the two that send has told as appended.
-const EACH: u16 = 500;
+/// What a thread does.
+#[derive(Clone, Copy)]
+pub enum Task {
+    /// It stays so often at the address of this last octet: until the End, or where it doesn't wait only until no frame is there.
+    Stay { last: u8, rounds: u32, waits: bool },
+    /// It sends so many unicasts from the address of this last octet: each until it is told as appended, or where it doesn't insist
+    /// once.
+    Send { from: u8, count: u16, insists: bool },
+}
+
+/// What a thread begins with.
+#[derive(Drop)]
+struct Part {
+    pass: Pass,
+    task: Task,
+}
 
 #[derive(Clone, Copy, PartialEq, Eq)]
-enum What {
+pub enum What {
     Sent,
     Came,
 }
@@ -34,20 +44,20 @@ enum What {
 /// A unicast that was told as appended, or a frame that came: the connection whose outbox it joined; the place of its
 /// entry, or which frame of its outlet it was; the last octet of its sender's address; and its Message ID.
 #[derive(Clone, Copy)]
-struct Note {
-    what: What,
-    conn: u64,
-    at: u64,
-    from: u8,
-    id: u16,
+pub struct Note {
+    pub what: What,
+    pub conn: u64,
+    pub at: u64,
+    pub from: u8,
+    pub id: u16,
 }
 
 /// What a thread comes to: its pass, how many calls of the hub it made, and what it noted.
 #[derive(Drop)]
-struct Done {
-    pass: Pass,
-    calls: u64,
-    notes: Vec<Note>,
+pub struct Done {
+    pub pass: Pass,
+    pub calls: u64,
+    pub notes: Vec<Note>,
 }
 
 /// A frame that came. One that is no unicast of a sender is noted as of none.
@@ -89,8 +99,8 @@ fn sent(told: Result<Told<OneReply>, Worn>, from: u8, id: u16) -> Option<Note> {
     }
 }
 
-/// Takes until the End, and notes what comes.
-fn drain<R: Wait>(rt: &R, conn: u64, outlet: &mut Outlet, notes: &mut Vec<Note>)
+/// Takes until the End, or where it doesn't wait until no frame is there, and notes what comes.
+fn drain<R: Wait>(rt: &R, conn: u64, outlet: &mut Outlet, waits: bool, notes: &mut Vec<Note>)
     ensures { outlet_mark outlet.new ≡ outlet_mark outlet.old }
 {
     for _ in rt.forever() {
@@ -99,43 +109,63 @@ fn drain<R: Wait>(rt: &R, conn: u64, outlet: &mut Outlet, notes: &mut Vec<Note>)
                 let _memory = notes.push(came(conn, outlet.taken(), &frame));
             }
             Take::Closed(_) => return,
-            Take::Empty => thread::yield_now(),
+            Take::Empty => if !waits {
+                return;
+            },
         }
+        thread::yield_now();
     }
     unreachable!()
 }
 
-/// Joins in place of who holds the address, takes until the End, and leaves. The answer is whether it joined.
-fn stay<R: Wait>(rt: &R, alloc: Global, hub: &Hub, pass: &mut Pass, notes: &mut Vec<Note>) -> bool
+/// Joins in place of who holds the address, takes, and leaves. The answer is whether it joined.
+fn stay<R: Wait>(
+    rt: &R,
+    alloc: Global,
+    hub: &Hub,
+    pass: &mut Pass,
+    last: u8,
+    waits: bool,
+    notes: &mut Vec<Note>,
+) -> bool
     requires { IsCaller hub.now pass.old }
     ensures { IsCaller hub.now pass.new }
 {
-    match hub.connect(rt, alloc, pass, who(RECEIVERS)) {
+    match hub.connect(rt, alloc, pass, who(last)) {
         Err(_) => false,
         Ok(joined) => {
             let mut outlet = joined.outlet;
-            drain(rt, joined.conn, &mut outlet, notes);
+            drain(rt, joined.conn, &mut outlet, waits, notes);
             let _told = hub.leave(rt, pass, joined.conn, outlet);
             true
         }
     }
 }
 
-/// Stays again and again, until the hub has stopped.
-fn receive<R: Wait>(rt: &R, alloc: Global, hub: &Hub, pass: Pass) -> Done
+/// Stays so often, or until the hub has stopped.
+fn receive<R: Wait>(
+    rt: &R,
+    alloc: Global,
+    hub: &Hub,
+    pass: Pass,
+    last: u8,
+    rounds: u32,
+    waits: bool,
+) -> Done
     requires { IsCaller hub.now pass }
     ensures { IsCaller hub.now result.pass }
 {
     let mut pass = pass;
-    let mut calls = 1u64;
+    let mut calls = 0u64;
     let mut notes = Vec::new(alloc);
-    for _ in rt.forever() {
-        if !stay(rt, alloc, hub, &mut pass, &mut notes) {
+    for _ in 0..rounds {
+        calls = calls.saturating_add(1);
+        if !stay(rt, alloc, hub, &mut pass, last, waits, &mut notes) {
             return Done { pass, calls, notes };
         }
-        calls = calls.saturating_add(2);
+        calls = calls.saturating_add(1);
     }
-    unreachable!()
+    Done { pass, calls, notes }
 }
 
 /// Sends unicast `id`, once.
@@ -160,7 +190,7 @@ fn send_once<R: Wait>(
     sent(told, from, id)
 }
 
-/// Sends unicast `id` until it is told as appended, and answers how many calls that took, and the note of it.
+/// Sends unicast `id` until it is told as appended, or once, and answers how many calls that took, and the note of it.
 fn insist<R: Wait>(
     rt: &R,
     alloc: Global,
@@ -169,14 +199,16 @@ fn insist<R: Wait>(
     conn: u64,
     from: u8,
     id: u16,
-) -> (u64, Note)
+    insists: bool,
+) -> (u64, Option<Note>)
     requires { IsCaller hub.now pass.old × IsOwnAs pass.old conn (vmac_at from) }
     ensures { IsCaller hub.now pass.new × IsOwnAs pass.new conn (vmac_at from) }
 {
     let mut calls = 0u64;
     for _ in rt.forever() {
         calls = calls.saturating_add(1);
-        if let Some(note) = send_once(rt, alloc, hub, pass, conn, from, id) {
+        let note = send_once(rt, alloc, hub, pass, conn, from, id);
+        if note.is_some() || !insists {
             return (calls, note);
         }
         thread::yield_now();
@@ -192,22 +224,34 @@ fn send_all<R: Wait>(
     pass: &mut Pass,
     conn: u64,
     from: u8,
+    count: u16,
+    insists: bool,
     notes: &mut Vec<Note>,
 ) -> u64
     requires { IsCaller hub.now pass.old × IsOwnAs pass.old conn (vmac_at from) }
     ensures { IsCaller hub.now pass.new }
 {
     let mut calls = 0u64;
-    for id in 0..EACH {
-        let (more, note) = insist(rt, alloc, hub, pass, conn, from, id);
-        let _memory = notes.push(note);
+    for id in 0..count {
+        let (more, note) = insist(rt, alloc, hub, pass, conn, from, id, insists);
+        if let Some(note) = note {
+            let _memory = notes.push(note);
+        }
         calls = calls.saturating_add(more);
     }
     calls
 }
 
 /// Joins, and sends: what a thread comes to that sends.
-fn send<R: Wait>(rt: &R, alloc: Global, hub: &Hub, pass: Pass, from: u8) -> Done
+fn send<R: Wait>(
+    rt: &R,
+    alloc: Global,
+    hub: &Hub,
+    pass: Pass,
+    from: u8,
+    count: u16,
+    insists: bool,
+) -> Done
     requires { IsCaller hub.now pass }
     ensures { IsCaller hub.now result.pass }
 {
@@ -215,7 +259,9 @@ fn send<R: Wait>(rt: &R, alloc: Global, hub: &Hub, pass: Pass, from: u8) -> Done
     let mut notes = Vec::new(alloc);
     match enter(rt, alloc, hub, &mut pass, from) {
         Some((conn, _outlet)) => {
-            let calls = send_all(rt, alloc, hub, &mut pass, conn, from, &mut notes);
+            let calls = send_all(
+                rt, alloc, hub, &mut pass, conn, from, count, insists, &mut notes,
+            );
             Done {
                 pass,
                 calls: calls.saturating_add(1),
@@ -230,15 +276,22 @@ fn send<R: Wait>(rt: &R, alloc: Global, hub: &Hub, pass: Pass, from: u8) -> Done
     }
 }
 
-/// Receives at the address of the receivers, and sends from any other.
-fn run<R: Wait>(rt: &R, alloc: Global, hub: &Hub, pass: Pass, last: u8) -> Done
-    requires { IsCaller hub.now pass }
+/// Does what a thread is to do.
+fn run<R: Wait>(rt: &R, alloc: Global, hub: &Hub, part: Part) -> Done
+    requires { IsCaller hub.now part.pass }
     ensures { IsCaller hub.now result.pass }
 {
-    if last == RECEIVERS {
-        receive(rt, alloc, hub, pass)
-    } else {
-        send(rt, alloc, hub, pass, last)
+    match part.task {
+        Task::Stay {
+            last,
+            rounds,
+            waits,
+        } => receive(rt, alloc, hub, part.pass, last, rounds, waits),
+        Task::Send {
+            from,
+            count,
+            insists,
+        } => send(rt, alloc, hub, part.pass, from, count, insists),
     }
 }
 
@@ -259,30 +312,28 @@ fn unite(hub: &Hub, one: Done, two: Done) -> Done
     }
 }
 
-/// Two threads, each at its address.
+/// Two threads.
 fn run_both<R: Threads + Wait + Sync>(
     rt: &R,
     alloc: Global,
     hub: &Hub,
-    first: Pass,
-    last: u8,
-    second: Pass,
-    other_last: u8,
+    first: Part,
+    second: Part,
 ) -> Done
-    requires first { IsCaller hub.now first }
-    requires second { IsCaller hub.now second }
+    requires first { IsCaller hub.now first.pass }
+    requires second { IsCaller hub.now second.pass }
     ensures { IsCaller hub.now result.pass }
 {
     let (one, two) = thread::join(
         rt,
         move || -> Done
-            requires { IsCaller hub.now first }
+            requires { IsCaller hub.now first.pass }
             ensures { IsCaller hub.entry.now result.pass }
-        { run(rt, alloc, hub, first, last) },
+        { run(rt, alloc, hub, first) },
         move || -> Done
-            requires { IsCaller hub.now second }
+            requires { IsCaller hub.now second.pass }
             ensures { IsCaller hub.entry.now result.pass }
-        { run(rt, alloc, hub, second, other_last) },
+        { run(rt, alloc, hub, second) },
     );
     unite(hub, one, two)
 }
@@ -306,11 +357,14 @@ fn await_takeover<R: Wait>(rt: &R, hub: &Hub, pass: &mut Pass) -> u64
     unreachable!()
 }
 
-/// Stops the hub, once a connection was taken over.
-fn stop<R: Wait>(rt: &R, hub: &Hub, done: Done) -> Done
+/// Stops the hub, if it is to be, once a connection was taken over.
+fn stop<R: Wait>(rt: &R, hub: &Hub, done: Done, stops: bool) -> Done
     requires { IsCaller hub.now done.pass }
     ensures { IsCaller hub.now result.pass }
 {
+    if !stops {
+        return done;
+    }
     let mut pass = done.pass;
     let waited = await_takeover(rt, hub, &mut pass);
     let _told = hub.stop(rt, &mut pass);
@@ -321,74 +375,68 @@ fn stop<R: Wait>(rt: &R, hub: &Hub, done: Done) -> Done
     }
 }
 
-/// All four threads. The hub is stopped when the two have sent.
+/// All four threads. Where it is to be, the hub is stopped when the last two have ended.
 fn run_all<R: Threads + Wait + Sync>(
     rt: &R,
     alloc: Global,
     hub: &Hub,
-    receivers: (Pass, Pass),
-    senders: (Pass, Pass),
+    pair: (Part, Part),
+    other: (Part, Part),
+    stops: bool,
 ) -> Done
-    requires receivers { IsCaller hub.now receivers.0 × IsCaller hub.now receivers.1 }
-    requires senders { IsCaller hub.now senders.0 × IsCaller hub.now senders.1 }
+    requires pair { IsCaller hub.now pair.0.pass × IsCaller hub.now pair.1.pass }
+    requires other { IsCaller hub.now other.0.pass × IsCaller hub.now other.1.pass }
     ensures { IsCaller hub.now result.pass }
 {
-    let (first, second) = receivers;
-    let (third, fourth) = senders;
+    let (first, second) = pair;
+    let (third, fourth) = other;
     let (one, two) = thread::join(
         rt,
         move || -> Done
-            requires { IsCaller hub.now first × IsCaller hub.now second }
+            requires { IsCaller hub.now first.pass × IsCaller hub.now second.pass }
             ensures { IsCaller hub.entry.now result.pass }
-        { run_both(rt, alloc, hub, first, RECEIVERS, second, RECEIVERS) },
+        { run_both(rt, alloc, hub, first, second) },
         move || -> Done
-            requires { IsCaller hub.now third × IsCaller hub.now fourth }
+            requires { IsCaller hub.now third.pass × IsCaller hub.now fourth.pass }
             ensures { IsCaller hub.entry.now result.pass }
-        { stop(rt, hub, run_both(rt, alloc, hub, third, 1, fourth, 2)) },
+        { stop(rt, hub, run_both(rt, alloc, hub, third, fourth), stops) },
     );
     unite(hub, one, two)
 }
 
-/// Whether the frames that came are the unicasts that were told as appended, and no other, of notes in the order of
-/// their connections and places.
-fn are_as_sent(notes: &[Note]) -> bool {
-    let mut all_sent = notes.iter().filter(|note| note.what == What::Sent);
-    for came in notes.iter().filter(|note| note.what == What::Came) {
-        match all_sent.next() {
-            Some(sent) => if came.conn != sent.conn
-                || came.from != sent.from
-                || came.id != sent.id
-            {
-                return false;
-            },
-            None => return false,
-        }
-    }
-    all_sent.next().is_none()
-}
-
-#[test]
-fn all_that_was_appended_comes(rt: HostRuntime) -> Result<(), Fail> {
-    let (hub, mut first) = new_hub(rt.alloc(), 8, 1 << 40, 4)?;
-    let Ok(second) = hub.split(&rt, &mut first) else {
-        panic!(rt; "there is a second number");
+/// Four threads that do this at a new hub: the hub, and what they come to.
+pub fn run_new<R: Threads + Wait + Sync>(
+    rt: &R,
+    alloc: Global,
+    pair: (Task, Task),
+    other: (Task, Task),
+    stops: bool,
+) -> Result<(Hub, Done), NoMemory>
+    ensures { IfOk result (λ r. IsCaller r.0 r.1.pass) }
+{
+    let (hub, mut pass) = new_hub(alloc, 8, 1 << 40, 4)?;
+    let Ok(second) = hub.split(rt, &mut pass) else {
+        return Err(NoMemory);
     };
-    let Ok(third) = hub.split(&rt, &mut first) else {
-        panic!(rt; "there is a third number");
+    let Ok(third) = hub.split(rt, &mut pass) else {
+        return Err(NoMemory);
     };
-    let Ok(fourth) = hub.split(&rt, &mut first) else {
-        panic!(rt; "there is a fourth number");
+    let Ok(fourth) = hub.split(rt, &mut pass) else {
+        return Err(NoMemory);
     };
-    let done = run_all(&rt, rt.alloc(), &hub, (first, second), (third, fourth));
-    let mut pass = done.pass;
-    let mut notes = done.notes;
-    let Ok(counts) = hub.counts(&rt, &mut pass) else {
-        panic!(rt; "the hub is worn");
+    let first = Part { pass, task: pair.0 };
+    let second = Part {
+        pass: second,
+        task: pair.1,
     };
-    assert_eq!(rt; counts.at, done.calls);
-    assert!(rt; counts.said.replaced > 0 && counts.said.appended == 1_000);
-    assert_eq!(rt; notes.len(), 2_000);
-    notes.sort_unstable_by_key(|note| (note.conn, note.at));
-    assert!(rt; are_as_sent(notes.as_slice()));
-    Ok(())
+    let third = Part {
+        pass: third,
+        task: other.0,
+    };
+    let fourth = Part {
+        pass: fourth,
+        task: other.1,
+    };
+    let done = run_all(rt, alloc, &hub, (first, second), (third, fourth), stops);
+    Ok((hub, done))
 }

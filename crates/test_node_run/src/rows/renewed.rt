@@ -1,5 +1,5 @@
 //! Runs of a node whose VMAC another node has.
-use crate::row::{ALONE, Gives, Peer, Row};
+use crate::row::{ALONE, Failing, Gives, NOTHING, Peer, Row};
 
 /// A's VMAC, with the device and the maxima of B.
 const SETTINGS_A: &str = concat!(
@@ -39,18 +39,40 @@ const ACCEPTING: Peer = Peer {
     failing: &[],
 };
 
+/// A hub that answers the Connect-Request with ID 0003, and the Disconnect-Request that comes next.
+const ACCEPTING_THE_THIRD: Peer = Peer {
+    name: "hub",
+    gives: &[
+        Gives::Message("070000030200000000FF00112233445566778899AABBCCDDEEFF064005D9"),
+        Gives::Message("09000004"),
+    ],
+    failing: &[],
+};
+
+/// The first draw fails.
+const FIRST_DRAW: Failing = Failing {
+    words: &[1],
+    ..NOTHING
+};
+
+/// A hub that refuses the Connect-Request with ID 0001 as a duplicate.
+const REFUSING_THE_FIRST: Peer = Peer {
+    name: "hub",
+    gives: &[Gives::Message("0000000106010000070097")],
+    failing: &[],
+};
+
+/// A hub that refuses the one with ID 0002.
+const REFUSING_THE_SECOND: Peer = Peer {
+    name: "hub",
+    gives: &[Gives::Message("0000000206010000070097")],
+    failing: &[],
+};
+
 /// Hubs that refuse Connect-Requests as duplicates, the first the one with ID 0001.
 const REFUSALS: [Peer; 9] = [
-    Peer {
-        name: "hub",
-        gives: &[Gives::Message("0000000106010000070097")],
-        failing: &[],
-    },
-    Peer {
-        name: "hub",
-        gives: &[Gives::Message("0000000206010000070097")],
-        failing: &[],
-    },
+    REFUSING_THE_FIRST,
+    REFUSING_THE_SECOND,
     Peer {
         name: "hub",
         gives: &[Gives::Message("0000000306010000070097")],
@@ -123,6 +145,33 @@ pub const RENEWED: &[Row] = &[
             "2150 hub put 0600000202000000000ABBBBBBBBBBBBBBBBBBBBBBBBBBBBBBBB064005D9\n",
             "2200 hub put 08000003\n",
             "2200 hub close 1000\n",
+        ),
+        ..ALONE
+    },
+    Row {
+        shows: "a draw that fails leaves the VMAC as it is, and takes no word from the next draw",
+        settings: SETTINGS_SHORT,
+        script: "at 240\nfinish\n",
+        readings: &[0, 10, 110, 120, 220, 230, 240],
+        words: &[0x1234_5678_9ABC_DEF0],
+        dialled: &[REFUSING_THE_FIRST, REFUSING_THE_SECOND, ACCEPTING_THE_THIRD],
+        failing: FIRST_DRAW,
+        written: concat!(
+            "nak hub 06 151\nnorandom\n",
+            "nak hub 06 151\nvmac 52789ABCDEF0\n",
+            "hub primary\nhub none\nfinished\n",
+        ),
+        did: concat!(
+            "0 dial hub ws://localhost:4443/\n",
+            "10 hub put 0600000102000000000ABBBBBBBBBBBBBBBBBBBBBBBBBBBBBBBB064005D9\n",
+            "10 hub close 1000\n",
+            "110 dial hub ws://localhost:4443/\n",
+            "120 hub put 0600000202000000000ABBBBBBBBBBBBBBBBBBBBBBBBBBBBBBBB064005D9\n",
+            "120 hub close 1000\n",
+            "220 dial hub ws://localhost:4443/\n",
+            "230 hub put 0600000352789ABCDEF0BBBBBBBBBBBBBBBBBBBBBBBBBBBBBBBB064005D9\n",
+            "240 hub put 08000004\n",
+            "240 hub close 1000\n",
         ),
         ..ALONE
     },
