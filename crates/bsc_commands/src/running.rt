@@ -105,13 +105,13 @@ fn run_asked<
         (record { settings = F.holds outside.old.files path; script = F.holds outside.old.files script })
         (record {
           unread = F.faults outside.old.files;
-          beside = node_world (dialling D.calls D.left D.faults) V.waits outside.old.node
-              (acceptor_world A.left A.waits A.bound A.faults outside.old.parts.acceptor) (C.readings outside.old.parts.clock) (K.held outside.old.sink);
+          beside = node_world (dialling D.calls D.left D.came D.faults) V.waits outside.old.node
+              (acceptor_world A.left A.came A.waits A.bound A.faults outside.old.parts.acceptor) (C.readings outside.old.parts.clock) (K.held outside.old.sink);
         })
         (record {
           unread = F.faults outside.new.files;
-          beside = node_world (dialling D.calls D.left D.faults) V.waits outside.new.node
-              (acceptor_world A.left A.waits A.bound A.faults outside.new.parts.acceptor) (C.readings outside.new.parts.clock) (K.held outside.new.sink);
+          beside = node_world (dialling D.calls D.left D.came D.faults) V.waits outside.new.node
+              (acceptor_world A.left A.came A.waits A.bound A.faults outside.new.parts.acceptor) (C.readings outside.new.parts.clock) (K.held outside.new.sink);
         }) result }
     ensures finished { (path script : Text) → seen asked.entry ≡ node path script → result ≡ 0 →
         (o : List ℕ) × F.holds outside.old.files script o
@@ -273,13 +273,13 @@ pub fn run<
         (record { settings = F.holds outside.old.files path; script = F.holds outside.old.files script })
         (record {
           unread = F.faults outside.old.files;
-          beside = node_world (dialling D.calls D.left D.faults) V.waits outside.old.node
-              (acceptor_world A.left A.waits A.bound A.faults outside.old.parts.acceptor) (C.readings outside.old.parts.clock) (K.held outside.old.sink);
+          beside = node_world (dialling D.calls D.left D.came D.faults) V.waits outside.old.node
+              (acceptor_world A.left A.came A.waits A.bound A.faults outside.old.parts.acceptor) (C.readings outside.old.parts.clock) (K.held outside.old.sink);
         })
         (record {
           unread = F.faults outside.new.files;
-          beside = node_world (dialling D.calls D.left D.faults) V.waits outside.new.node
-              (acceptor_world A.left A.waits A.bound A.faults outside.new.parts.acceptor) (C.readings outside.new.parts.clock) (K.held outside.new.sink);
+          beside = node_world (dialling D.calls D.left D.came D.faults) V.waits outside.new.node
+              (acceptor_world A.left A.came A.waits A.bound A.faults outside.new.parts.acceptor) (C.readings outside.new.parts.clock) (K.held outside.new.sink);
         }) result }
 
     // Status 0 comes of the words of a node only once the time of its script's `finish` has passed, from the first reading of

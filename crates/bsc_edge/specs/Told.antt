@@ -1,5 +1,6 @@
 -- What objects tell of what they hold, and how that changes.
-use Rattle.std.specs.Prelude.{◌≡◌, List, [], ◌∷◌, ◌++◌, Option, Some, None, Result, Ok, Err, ⊤}
+use Rattle.std.specs.Prelude.{◌≡◌, Bool, true, false, List, [], ◌∷◌, ◌++◌, Option, Some, None, Result, Ok, Err, ⊤}
+use Rattle.std.specs.List.{list_all}
 use Rattle.bsc_edge.specs.declared.fault.LinkFault.{LinkFault}
 use Rattle.bsc_edge.specs.declared.incoming.Incoming.{Incoming}
 use Rattle.bsc_edge.specs.declared.incoming.Incoming.TheVariants.{Quiet}
@@ -24,6 +25,16 @@ abbrev pub Stays : {A : Type 0} → Option A → Option A → Type 0
 Stays old None = ⊤
 Stays None (Some new) = ⊥
 Stays (Some old) (Some new) = new ≡ old
+
+-- Whether each of these is so, where they are told.
+abbrev pub all_told : {A : Type 0} → (A → Bool) → Option (List A) → Bool
+all_told is_so None = true
+all_told is_so (Some xs) = list_all is_so xs
+
+-- Whether nothing has happened yet, as far as it is told.
+abbrev pub is_untold : {A : Type 0} → Option (List A) → Bool
+is_untold (Some (x ∷ xs)) = false
+is_untold told = true
 
 -- Nothing came within the wait.
 abbrev pub IsQuiet : Result Incoming LinkFault → Type 0

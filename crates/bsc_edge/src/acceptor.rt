@@ -1,6 +1,6 @@
 //! Who takes the links that peers make.
-ghost use Rattle.std.specs.Prelude.{◌≡◌, ◌≤◌, [], ◌∷◌, Some, Err, IsErr, IfOk};
-ghost use Rattle.std.specs.List.{AllByRecursion};
+ghost use Rattle.std.specs.Prelude.{◌≡◌, true, ◌≤◌, [], ◌∷◌, Some, Err, IsErr, IfOk};
+ghost use Rattle.std.specs.List.{list_all};
 ghost use Rattle.bsc_edge.specs.declared.fault.LinkFault.{LinkFault};
 ghost use Rattle.bsc_edge.specs.Told.{Grows, ToldIs, Stays, Leaves, IsNoLink, arrived_in};
 ghost use Rattle.bsc_outside.specs.Faults.{HasRisen};
@@ -13,7 +13,8 @@ use std::alloc::Global;
 
 /// Takes the links that peers make.
 pub trait Acceptor<L> {
-    ghost use Rattle.std.specs.Prelude.{List, ℕ, None, Option, ⊤};
+    ghost use Rattle.std.specs.Prelude.{◌≡◌, Bool, true, List, ℕ, None, Option};
+    ghost use Rattle.bsc_edge.specs.Told.{all_told};
 
     /// How many calls failed, up to the greatest `u64`.
     ghost faults: { Self → ℕ };
@@ -30,8 +31,11 @@ pub trait Acceptor<L> {
     /// The links that came so far, in order, where they are told.
     ghost came: { Self → Option (List L) } = { λ _. None };
 
-    /// How each link is that comes, as far as that is told.
-    ghost fresh: { L → Type 0 } = { λ _. ⊤ };
+    /// Whether a link is as each is that comes.
+    ghost fresh: { L → Bool } = { λ _. true };
+
+    /// Each that came was so when it came.
+    ghost came_fresh: { (a : Self) → all_told fresh (came a) ≡ true };
 
     /// The waits that `next` was asked for, in milliseconds, where they are told.
     ghost waits: { Self → Option (List ℕ) };
@@ -51,7 +55,7 @@ pub trait Acceptor<L> {
         ensures bound { Stays (bound self.old) (bound self.new) }
         ensures left { Leaves (left self.old) (left self.new) result }
         ensures came { Grows (came self.old) (came self.new) (arrived_in result) }
-        ensures fresh { AllByRecursion fresh (arrived_in result) }
+        ensures fresh { list_all fresh (arrived_in result) ≡ true }
         ensures waits { Grows (waits self.old) (waits self.new) (wait_ms ∷ []) }
         ensures later { faults self.old ≤ faults self.new }
         ensures failed { result ≡ Err LinkFault.Failed → HasRisen (faults self.old) (faults self.new) }

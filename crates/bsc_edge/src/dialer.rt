@@ -1,6 +1,6 @@
 //! Who makes links to peers.
-ghost use Rattle.std.specs.Prelude.{◌≡◌, ◌≤◌, [], ◌∷◌, Err};
-ghost use Rattle.std.specs.List.{AllByRecursion};
+ghost use Rattle.std.specs.Prelude.{◌≡◌, true, ◌≤◌, [], ◌∷◌, Err};
+ghost use Rattle.std.specs.List.{list_all};
 ghost use Rattle.bsc_edge.specs.declared.fault.LinkFault.{LinkFault};
 ghost use Rattle.bsc_edge.specs.Dialling.{dialled, made_in, Takes};
 ghost use Rattle.bsc_edge.specs.Told.{Grows};
@@ -12,8 +12,9 @@ use std::alloc::Global;
 
 /// Makes links to peers.
 pub trait Dialer<L> {
-    ghost use Rattle.std.specs.Prelude.{List, ℕ, None, Option, ⊤};
+    ghost use Rattle.std.specs.Prelude.{◌≡◌, Bool, true, List, ℕ, None, Option};
     ghost use Rattle.bsc_edge.specs.declared.dialled.Dialled.{Dialled};
+    ghost use Rattle.bsc_edge.specs.Told.{all_told};
 
     /// How many calls failed, up to the greatest `u64`.
     ghost faults: { Self → ℕ };
@@ -27,15 +28,18 @@ pub trait Dialer<L> {
     /// The links that came so far, in order, where they are told.
     ghost came: { Self → Option (List L) } = { λ _. None };
 
-    /// How each link is that comes, as far as that is told.
-    ghost fresh: { L → Type 0 } = { λ _. ⊤ };
+    /// Whether a link is as each is that comes.
+    ghost fresh: { L → Bool } = { λ _. true };
+
+    /// Each that came was so when it came.
+    ghost came_fresh: { (d : Self) → all_told fresh (came d) ≡ true };
 
     /// Makes a link of this kind to the peer that the URI names.
     fn dial(&mut self, alloc: Global, uri: &[u8], kind: Kind) -> Result<L, LinkFault>
         ensures told { Grows (calls self.old) (calls self.new) (dialled uri.now kind result ∷ []) }
         ensures left { Takes (left self.old) (left self.new) result }
         ensures came { Grows (came self.old) (came self.new) (made_in result) }
-        ensures fresh { AllByRecursion fresh (made_in result) }
+        ensures fresh { list_all fresh (made_in result) ≡ true }
         ensures later { faults self.old ≤ faults self.new }
         ensures failed { result ≡ Err LinkFault.Failed → HasRisen (faults self.old) (faults self.new) };
 }

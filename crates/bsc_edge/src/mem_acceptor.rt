@@ -1,5 +1,6 @@
 //! Links in memory that arrive.
 ghost use Rattle.std.specs.Prelude.{◌≡◌, ◌≤◌, true, [], None, Some};
+ghost use Rattle.std.proofs.Common.{refl};
 ghost use Rattle.bsc_edge.specs.Notes.{noted};
 
 use crate::Failed;
@@ -68,6 +69,8 @@ impl<L> Acceptor<L> for MemAcceptor<'_, L> {
     ghost bound = { λ a. Some a.bound };
 
     ghost left = { λ a. Some a.links.items };
+
+    ghost came_fresh = { λ _. refl };
 
     ghost waits = { λ a. noted a.waits };
 

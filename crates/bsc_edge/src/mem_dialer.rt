@@ -1,5 +1,6 @@
 //! A dialer in memory, of which some calls fail.
 ghost use Rattle.std.specs.Prelude.{◌≡◌, [], Some, IfOk};
+ghost use Rattle.std.proofs.Common.{refl};
 ghost use Rattle.bsc_edge.specs.Notes.{noted};
 
 use crate::calls::Calls;
@@ -68,6 +69,8 @@ impl<L> Dialer<L> for MemDialer<'_, L> {
     ghost calls = { λ d. noted d.dialled };
 
     ghost left = { λ d. Some d.links.items };
+
+    ghost came_fresh = { λ _. refl };
 
     fn dial(&mut self, alloc: Global, uri: &[u8], kind: Kind) -> Result<L, LinkFault> {
         if self.calls.fails() {

@@ -1,5 +1,6 @@
 //! A dialer that tells its calls and the links that came.
-ghost use Rattle.std.specs.Prelude.{◌≡◌, [], ◌∷◌, Some};
+ghost use Rattle.std.specs.Prelude.{◌≡◌, true, [], ◌∷◌, Some};
+ghost use Rattle.std.specs.List.{list_all};
 ghost use Rattle.bsc_edge.specs.Dialling.{dialled, made_in};
 
 use crate::dialer::Dialer;
@@ -46,13 +47,14 @@ impl<L> Happened<L> for Making<'_, L> {
 /// A dialer over another, whose calls it tells to contracts: what it was asked for, whether a link came, and which. It takes no
 /// memory of its own, and does nothing more than the dialer under it.
 #[derive(Drop)]
-pub struct ToldDialer<D, L> {
+pub struct ToldDialer<D: Dialer<L>, L> {
     dialer: D,
     calls: Past<Dialled>,
     came: Past<L>,
+    ghost came_fresh: { list_all D.fresh came.items ≡ true },
 }
 
-impl<D, L> ToldDialer<D, L> {
+impl<L, D: Dialer<L>> ToldDialer<D, L> {
     /// A dialer over this one. Nothing was dialled yet.
     pub fn new(dialer: D) -> ToldDialer<D, L>
         ensures dialer { result.dialer ≡ dialer }
@@ -75,6 +77,8 @@ impl<L, D: Dialer<L>> Dialer<L> for ToldDialer<D, L> {
     ghost fresh = { D.fresh };
 
     ghost came = { λ d. Some d.came.items };
+
+    ghost came_fresh = { λ d. d.came_fresh };
 
     ghost left = { λ d. D.left d.dialer };
 

@@ -1,5 +1,6 @@
 //! An acceptor of one thread whose handshakes wait in one poll.
 ghost use Rattle.std.specs.Prelude.{◌≡◌, ◌≤◌, None};
+ghost use Rattle.std.proofs.Common.{refl};
 
 use crate::handshakes::{Handshakes, Turned};
 use crate::socket_link::{HANDSHAKE_MS, SocketLink, accepted};
@@ -325,6 +326,8 @@ impl<R: Clock + Net + Wait + RandomSource + Copy + Drop> Acceptor<SocketLink<R>>
     ghost bound = { λ _. None };
 
     ghost left = { λ _. None };
+
+    ghost came_fresh = { λ _. refl };
 
     ghost waits = { λ _. None };
 

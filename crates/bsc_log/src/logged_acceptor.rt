@@ -1,5 +1,6 @@
 //! An acceptor of links of which lines are told.
 ghost use Rattle.std.specs.Prelude.{◌≡◌, None, IsSome, List, Option};
+ghost use Rattle.std.proofs.Common.{refl};
 ghost use Rattle.bsc_edge.specs.Told.{Leaves};
 ghost use Rattle.bsc_log.specs.Logged.{Covers, left_by};
 
@@ -79,6 +80,8 @@ impl<L, R: Clock + Wait + Copy, A: Acceptor<L>> Acceptor<LoggedLink<L, R>>
     ghost bound = { λ a. A.bound a.acceptor };
 
     ghost left = { λ a. left_by a.logging (A.left a.acceptor) };
+
+    ghost came_fresh = { λ _. refl };
 
     ghost waits = { λ a. A.waits a.acceptor };
 

@@ -1,5 +1,6 @@
 //! A dialer of links of which no lines are told.
 ghost use Rattle.std.specs.Prelude.{◌≡◌, ℕ, List, None, Option, Err};
+ghost use Rattle.std.proofs.Common.{refl};
 ghost use Rattle.bsc_edge.specs.Dialling.{dialled, Takes};
 ghost use Rattle.bsc_edge.specs.declared.fault.LinkFault.{LinkFault};
 ghost use Rattle.bsc_edge.specs.declared.kind.Kind.{Kind as KindType};
@@ -41,6 +42,8 @@ impl<L, R, D: Dialer<L>> Dialer<LoggedLink<L, R>> for UnloggedDialer<D> {
     ghost calls = { λ d. D.calls d.dialer };
 
     ghost left = { λ d. left_by None (D.left d.dialer) };
+
+    ghost came_fresh = { λ _. refl };
 
     fn dial(
         &mut self,

@@ -1,4 +1,4 @@
--- The links of a node that was run to its end were used as its log says.
+-- The links of a node that was run to its end were used as its log says, and tell that.
 use Rattle.std.proofs.Common.{List, [], Option, is_some, Result, Ok, Err, IfOk}
 use Rattle.bsc_edge.specs.declared.said.Said.{Said}
 use Rattle.bsc_node.specs.declared.node_event.NodeEvent.{NodeEvent}
@@ -8,10 +8,12 @@ use Rattle.bsc_node_run.specs.Drawing.{GoesDrawing, at_rest}
 use Rattle.bsc_node_run.specs.Moments.{run_moment}
 use Rattle.bsc_node_run.specs.Running.{Run}
 use Rattle.bsc_node_laws.specs.Courses.{GoesAsDefined}
+use Rattle.bsc_node_links.specs.Telling.{EachTells}
 use Rattle.bsc_node_links.specs.Using.{LinksAreUsed}
+use Rattle.bsc_node_links.proofs.Telling.{links_came_fresh, links_tell}
 use Rattle.bsc_node_links.proofs.Walking.{script_runs_use_links}
 use Rattle.bsc_node_command.specs.Comes.{made_by}
-use Rattle.bsc_node_command.specs.Ran.{RanNodesUseLinks, outside_of}
+use Rattle.bsc_node_command.specs.Ran.{RanNodesTell, RanNodesUseLinks, outside_of}
 
 pub ran_nodes_use_links : {L W : Type 0} (talk : L → Option (List Said)) (drawn : NodeEvent → W → W → Type 0) → RanNodesUseLinks talk drawn
 ran_nodes_use_links {L} {W} talk drawn asked before after s x = by x.end x.run
@@ -25,3 +27,17 @@ ran_nodes_use_links {L} {W} talk drawn asked before after s x = by x.end x.run
         script_runs_use_links talk drawn (made_by asked.settings) asked.script x.lines x.reads (is_some asked.settings.direct_port) e asked.settings.turns
         before.random after.random (outside_of before x.door before.written) (outside_of after after.door x.written) x.last run
     by (Err halt) run = tt
+
+pub ran_nodes_tell : {L W : Type 0} (talk : L → Option (List Said)) (drawn : NodeEvent → W → W → Type 0) → RanNodesTell talk drawn
+ran_nodes_tell {L} {W} talk drawn asked before after s x dialled arrived = by x.end (ran_nodes_use_links talk drawn asked before after s x)
+  where
+    U : Type 0
+    U = LinksAreUsed talk (outside_of before x.door before.written) (outside_of after after.door x.written) x.last
+
+    by : (end : Result RunEnd Halt) → IfOk end (λ e. U) → IfOk end (λ e. (u : U) × EachTells talk x.last u.links)
+    by (Ok e) u = (
+      u,
+      links_tell talk (outside_of before x.door before.written) (outside_of after after.door x.written) x.last u
+          (links_came_fresh talk (outside_of before x.door before.written) (outside_of after after.door x.written) x.last u dialled arrived),
+    )
+    by (Err halt) u = tt

@@ -70,16 +70,17 @@ pub record CommandWorld (L W : Type 0) : Type 0 where
   pub beside : NodeWorld L W
   pub unread : ℕ
 
--- What there is of an acceptor at a moment: its links and the waits that it was asked for, and the port that it is bound to, as far
--- as these are told; and its count of faults.
+-- What there is of an acceptor at a moment: its links, those that came, the waits that it was asked for, and the port that it is
+-- bound to, as far as these are told; and its count of faults.
 pub record AcceptorWorld (L : Type 0) : Type 0 where
   pub door : Admitting L
   pub port : Option (Option ℕ)
   pub faults : ℕ
 
 -- that of an acceptor, by what acceptors of its type tell
-abbrev pub acceptor_world : {A L : Type 0} → (A → Option (List L)) → (A → Option (List ℕ)) → (A → Option (Option ℕ)) → (A → ℕ) → A → AcceptorWorld L
-acceptor_world left waits bound faults a = record { door = admitting left waits a; port = bound a; faults = faults a }
+abbrev pub acceptor_world : {A L : Type 0} → (A → Option (List L)) → (A → Option (List L)) → (A → Option (List ℕ)) → (A → Option (Option ℕ)) → (A → ℕ) → A
+    → AcceptorWorld L
+acceptor_world left came waits bound faults a = record { door = admitting left came waits a; port = bound a; faults = faults a }
 
 -- What there is outside a node that is run by these parts, as those of their types tell it: behind the parts stand what there is of
 -- the acceptor, the readings of the clock, and what was written.
@@ -108,7 +109,7 @@ pub record NodeFiles : Type 1 where
 
 -- An acceptor gave no link, and was asked for none.
 abbrev pub IsUnasked : {L : Type 0} → Admitting L → Admitting L → Type 0
-IsUnasked old new = Stays old.left new.left × Stays old.waits new.waits
+IsUnasked old new = Stays old.left new.left × Stays old.came new.came × Stays old.waits new.waits
 
 module _ {L W : Type 0} where
   -- No node was run: a line of the script is the first bad one, and no port was bound; or the script is good, the port wasn't

@@ -3,6 +3,7 @@ use Rattle.std.specs.Prelude.{ℕ, List, Option, IfOk}
 use Rattle.bsc_edge.specs.declared.said.Said.{Said}
 use Rattle.bsc_node.specs.declared.node_event.NodeEvent.{NodeEvent}
 use Rattle.bsc_node_run.specs.Worlds.{Admitting}
+use Rattle.bsc_node_links.specs.Telling.{CameFresh, EachTells}
 use Rattle.bsc_node_links.specs.Using.{LinksAreUsed, Outside}
 use Rattle.bsc_node_command.specs.Comes.{NodeAsked, NodeRan, NodeWorld}
 
@@ -14,3 +15,10 @@ outside_of world door written = record { dialled = world.dialled; written = writ
 abbrev pub RanNodesUseLinks : {L W : Type 0} → (L → Option (List Said)) → (NodeEvent → W → W → Type 0) → Type 0
 RanNodesUseLinks {L} {W} talk drawn = (asked : NodeAsked) (before after : NodeWorld L W) (s : ℕ) (x : NodeRan talk drawn asked before after s)
     → IfOk x.end (λ e. LinksAreUsed talk (outside_of before x.door before.written) (outside_of after after.door x.written) x.last)
+
+-- .. and where each link that came from dialer and acceptor had told nothing when it came, what each tells at last is what that log
+-- says of it.
+abbrev pub RanNodesTell : {L W : Type 0} → (L → Option (List Said)) → (NodeEvent → W → W → Type 0) → Type 0
+RanNodesTell {L} {W} talk drawn = (asked : NodeAsked) (before after : NodeWorld L W) (s : ℕ) (x : NodeRan talk drawn asked before after s)
+    → CameFresh talk after.dialled.came → CameFresh talk after.door.came
+    → IfOk x.end (λ e. (u : LinksAreUsed talk (outside_of before x.door before.written) (outside_of after after.door x.written) x.last) × EachTells talk x.last u.links)

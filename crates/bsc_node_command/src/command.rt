@@ -121,13 +121,13 @@ fn run_script<
     ensures runs { RunsScript L.talk (Draws W.gives W.faults) here.entry.settings.now (F.holds files.old path.now)
         (record {
           unread = F.faults files.old;
-          beside = node_world (dialling D.calls D.left D.faults) V.waits parts.old
-              (acceptor_world A.left A.waits A.bound A.faults acceptor.old) (C.readings clock.old) (K.held sink.old);
+          beside = node_world (dialling D.calls D.left D.came D.faults) V.waits parts.old
+              (acceptor_world A.left A.came A.waits A.bound A.faults acceptor.old) (C.readings clock.old) (K.held sink.old);
         })
         (record {
           unread = F.faults files.new;
-          beside = node_world (dialling D.calls D.left D.faults) V.waits parts.new
-              (acceptor_world A.left A.waits A.bound A.faults acceptor.new) (C.readings clock.new) (K.held sink.new);
+          beside = node_world (dialling D.calls D.left D.came D.faults) V.waits parts.new
+              (acceptor_world A.left A.came A.waits A.bound A.faults acceptor.new) (C.readings clock.new) (K.held sink.new);
         }) result }
     ensures read { RisesIf result 3 (F.faults files.old) (F.faults files.new) }
     ensures write { RisesIf result 4 (K.faults sink.old) (K.faults sink.new) }
@@ -173,13 +173,13 @@ pub fn run_node_files<
         (record { settings = F.holds files.old words.entry.path.now; script = F.holds files.old words.entry.script.now })
         (record {
           unread = F.faults files.old;
-          beside = node_world (dialling D.calls D.left D.faults) V.waits parts.old
-              (acceptor_world A.left A.waits A.bound A.faults acceptor.old) (C.readings clock.old) (K.held sink.old);
+          beside = node_world (dialling D.calls D.left D.came D.faults) V.waits parts.old
+              (acceptor_world A.left A.came A.waits A.bound A.faults acceptor.old) (C.readings clock.old) (K.held sink.old);
         })
         (record {
           unread = F.faults files.new;
-          beside = node_world (dialling D.calls D.left D.faults) V.waits parts.new
-              (acceptor_world A.left A.waits A.bound A.faults acceptor.new) (C.readings clock.new) (K.held sink.new);
+          beside = node_world (dialling D.calls D.left D.came D.faults) V.waits parts.new
+              (acceptor_world A.left A.came A.waits A.bound A.faults acceptor.new) (C.readings clock.new) (K.held sink.new);
         }) result }
 
     // Status 0 comes only once the time of the script's `finish` has passed, from the first reading of the clock to the last.

@@ -1,6 +1,6 @@
-//! What is proved of the links of a node that was run, carried by a function that does nothing.
+//! What is proved of the links of a node that was run, carried by functions that do nothing.
 ghost use Rattle.bsc_node_run.specs.Drawing.{Draws};
-ghost use Rattle.bsc_node_command.specs.Ran.{RanNodesUseLinks};
+ghost use Rattle.bsc_node_command.specs.Ran.{RanNodesTell, RanNodesUseLinks};
 
 use bsc_edge::Link;
 use bsc_node_run::Words;
@@ -9,4 +9,10 @@ use bsc_node_run::Words;
 /// messages that the log says it gave, and the first of those that the log says were put on it were put on it.
 pub fn ran_nodes_use_links<L: Link, W: Words>()
     ensures { RanNodesUseLinks L.talk (Draws W.gives W.faults) }
+{}
+
+/// And where each link that came from dialer and acceptor had told nothing when it came, what each tells at last is what the log says
+/// of it.
+pub fn ran_nodes_tell<L: Link, W: Words>()
+    ensures { RanNodesTell L.talk (Draws W.gives W.faults) }
 {}

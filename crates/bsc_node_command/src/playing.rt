@@ -45,6 +45,7 @@ fn tell_end<K: Sink>(sink: &mut K, end: Result<RunEnd, Halt>) -> u8
 fn bind<L, A: Acceptor<L>>(settings: &NodeSettings, acceptor: &mut A) -> Result<(), Failed>
     ensures bound { IfOk result (λ _. IsBoundBy settings.now.direct_port (A.bound acceptor.old) (A.bound acceptor.new)) }
     ensures left { Stays (A.left acceptor.old) (A.left acceptor.new) }
+    ensures came { Stays (A.came acceptor.old) (A.came acceptor.new) }
     ensures waits { Stays (A.waits acceptor.old) (A.waits acceptor.new) }
     ensures failed { IsErr result → HasRisen (A.faults acceptor.old) (A.faults acceptor.new) }
     ensures later { A.faults acceptor.old ≤ A.faults acceptor.new }
@@ -67,13 +68,13 @@ fn run_made<K: Sink, C: Clock, V: Waiter, W: Words, L: Link + Drop, A: Acceptor<
 ) -> u8
     requires { NodeStands node.node (made_by here.settings.now) [] }
     ensures ran { (script : List ℕ) (door : Admitting L) (port : Option (Option ℕ)) (faults : ℕ) →
-        script_of script ≡ Ok (map wish_of lines.now) → IsUnasked door (admitting A.left A.waits acceptor.old) →
+        script_of script ≡ Ok (map wish_of lines.now) → IsUnasked door (admitting A.left A.came A.waits acceptor.old) →
         IsBoundBy here.entry.settings.now.direct_port port (A.bound acceptor.old) →
         NodeRan L.talk (Draws W.gives W.faults) (record { settings = here.entry.settings.now; script = script })
-        (node_world (dialling D.calls D.left D.faults) V.waits parts.old
+        (node_world (dialling D.calls D.left D.came D.faults) V.waits parts.old
         (record { door = door; port = port; faults = faults }) (C.readings clock.old) (K.held sink.old))
-        (node_world (dialling D.calls D.left D.faults) V.waits parts.new
-        (acceptor_world A.left A.waits A.bound A.faults acceptor.new) (C.readings clock.new) (K.held sink.new)) result }
+        (node_world (dialling D.calls D.left D.came D.faults) V.waits parts.new
+        (acceptor_world A.left A.came A.waits A.bound A.faults acceptor.new) (C.readings clock.new) (K.held sink.new)) result }
     ensures write { RisesIf result 4 (K.faults sink.old) (K.faults sink.new) }
     ensures link { RisesIf result 6 (A.faults acceptor.old) (A.faults acceptor.new) }
     ensures statuses { (result ≡ 0) ⊎ (result ≡ 4) ⊎ (result ≡ 6) ⊎ (result ≡ 7) ⊎ (result ≡ 8) }
@@ -102,10 +103,10 @@ fn run_lines<K: Sink, C: Clock, V: Waiter, W: Words, L: Link + Drop, A: Acceptor
 ) -> u8
     ensures comes { (script : List ℕ) → script_of script ≡ Ok (map wish_of lines.now) →
         Comes L.talk (Draws W.gives W.faults) (record { settings = here.entry.settings.now; script = script })
-        (node_world (dialling D.calls D.left D.faults) V.waits parts.old
-        (acceptor_world A.left A.waits A.bound A.faults acceptor.old) (C.readings clock.old) (K.held sink.old))
-        (node_world (dialling D.calls D.left D.faults) V.waits parts.new
-        (acceptor_world A.left A.waits A.bound A.faults acceptor.new) (C.readings clock.new) (K.held sink.new)) result }
+        (node_world (dialling D.calls D.left D.came D.faults) V.waits parts.old
+        (acceptor_world A.left A.came A.waits A.bound A.faults acceptor.old) (C.readings clock.old) (K.held sink.old))
+        (node_world (dialling D.calls D.left D.came D.faults) V.waits parts.new
+        (acceptor_world A.left A.came A.waits A.bound A.faults acceptor.new) (C.readings clock.new) (K.held sink.new)) result }
     ensures write { RisesIf result 4 (K.faults sink.old) (K.faults sink.new) }
     ensures link { RisesIf result 6 (A.faults acceptor.old) (A.faults acceptor.new) }
     ensures statuses { (result ≡ 0) ⊎ (result ≡ 4) ⊎ (result ≡ 6) ⊎ (result ≡ 7) ⊎ (result ≡ 8) }
@@ -131,10 +132,10 @@ fn run_text<K: Sink, C: Clock, V: Waiter, W: Words, L: Link + Drop, A: Acceptor<
     parts: &mut NodeParts<V, W, D>,
 ) -> u8
     ensures comes { Comes L.talk (Draws W.gives W.faults) (record { settings = here.entry.settings.now; script = script.now })
-        (node_world (dialling D.calls D.left D.faults) V.waits parts.old
-        (acceptor_world A.left A.waits A.bound A.faults acceptor.old) (C.readings clock.old) (K.held sink.old))
-        (node_world (dialling D.calls D.left D.faults) V.waits parts.new
-        (acceptor_world A.left A.waits A.bound A.faults acceptor.new) (C.readings clock.new) (K.held sink.new)) result }
+        (node_world (dialling D.calls D.left D.came D.faults) V.waits parts.old
+        (acceptor_world A.left A.came A.waits A.bound A.faults acceptor.old) (C.readings clock.old) (K.held sink.old))
+        (node_world (dialling D.calls D.left D.came D.faults) V.waits parts.new
+        (acceptor_world A.left A.came A.waits A.bound A.faults acceptor.new) (C.readings clock.new) (K.held sink.new)) result }
     ensures write { RisesIf result 4 (K.faults sink.old) (K.faults sink.new) }
     ensures link { RisesIf result 6 (A.faults acceptor.old) (A.faults acceptor.new) }
     ensures statuses { (result ≡ 0) ⊎ (result ≡ 2) ⊎ (result ≡ 4) ⊎ (result ≡ 6) ⊎ (result ≡ 7) ⊎ (result ≡ 8) }
@@ -178,10 +179,10 @@ pub fn run_node<
 ) -> u8
     // Either no node was run, and nothing was dialled; or a node of the settings was, to its end or to a fault.
     ensures comes { Comes L.talk (Draws W.gives W.faults) (record { settings = settings.now; script = script.now })
-        (node_world (dialling D.calls D.left D.faults) V.waits parts.old
-        (acceptor_world A.left A.waits A.bound A.faults acceptor.old) (C.readings clock.old) (K.held sink.old))
-        (node_world (dialling D.calls D.left D.faults) V.waits parts.new
-        (acceptor_world A.left A.waits A.bound A.faults acceptor.new) (C.readings clock.new) (K.held sink.new)) result }
+        (node_world (dialling D.calls D.left D.came D.faults) V.waits parts.old
+        (acceptor_world A.left A.came A.waits A.bound A.faults acceptor.old) (C.readings clock.old) (K.held sink.old))
+        (node_world (dialling D.calls D.left D.came D.faults) V.waits parts.new
+        (acceptor_world A.left A.came A.waits A.bound A.faults acceptor.new) (C.readings clock.new) (K.held sink.new)) result }
 
     // Status 2 comes only of a script with a bad line, and such a script comes to no other, but where the write of the last
     // line failed or memory ran out.

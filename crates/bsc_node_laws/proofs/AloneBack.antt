@@ -157,8 +157,8 @@ module _ {N L : Type 0} (goes : N → ℕ → NodeEvent → List Action → N �
   pub admits_left : (links : List L) (now : ℕ) (b : Bool) (n m : N) (w v : World L) (door door' : Admitting L)
       → Admits goes talk now b (moment n w door) (moment m v door') → StillLeft links door'.left → StillLeft links door.left
   admits_left links now false n m w v door door' (e, s, k) h = subst (λ (d : Admitting L). StillLeft links d.left) k h
-  admits_left links now true n m w v door door' (waits, inl (e, s, k)) h = none_left links door.left door'.left k h
-  admits_left links now true n m w v door door' (waits, inr (l, k, g)) h = one_left links l door.left door'.left k h
+  admits_left links now true n m w v door door' (waits, inl (e, s, k)) h = none_left links door.left door'.left k.0 h
+  admits_left links now true n m w v door door' (waits, inr (l, k, g)) h = one_left links l door.left door'.left k.0 h
 
   -- ---- turns
 

@@ -174,8 +174,8 @@ module _ {L : Type 0} (a : Made) (talk : L → Option (List Said)) (all : List D
   admits_stands : (links : List L) (b : Bool) (n m : Log) (w v : World L) (door door' : Admitting L) (s : Alone) → Admits (GoesAsDefined a) talk now b (moment n w door) (moment m v door') → door.left ≡ Some links
       → StillLeft links door'.left → Stands all n w s → Stands all m v s × (door'.left ≡ Some links)
   admits_stands links false n m w v door door' s (e, same, k) is still h = (stays talk all n m w v s e same h, ap (λ (d : Admitting L). d.left) k ∙ is)
-  admits_stands links true n m w v door door' s (waits, inl (e, same, k)) is still h = (stays talk all n m w v s e same h, none_arrived links door.left door'.left k is still)
-  admits_stands links true n m w v door door' s (waits, inr (l, k, g)) is still h = absurd (one_arrived links l door.left door'.left k is still)
+  admits_stands links true n m w v door door' s (waits, inl (e, same, k)) is still h = (stays talk all n m w v s e same h, none_arrived links door.left door'.left k.0 is still)
+  admits_stands links true n m w v door door' s (waits, inr (l, k, g)) is still h = absurd (one_arrived links l door.left door'.left k.0 is still)
 
   -- ---- a turn
 

@@ -1,17 +1,19 @@
 -- What links that had told nothing when they came tell at last.
-use Rattle.std.proofs.Common.{◌≡◌, ℕ, zero, suc, true, List, [], ◌∷◌, ◌++◌, Option, Some, None, refl, ap, sym, subst, ◌∙◌}
+use Rattle.std.proofs.Common.{◌≡◌, ℕ, zero, suc, Bool, true, false, ◌&&◌, List, [], ◌∷◌, ◌++◌, Option, Some, None, refl, ap, sym, subst, ◌∙◌}
 use Rattle.std.specs.Prelude.{slice_get}
+use Rattle.std.specs.List.{list_all}
 use Rattle.std.proofs.lemmas.Option.{same_Some}
 use Rattle.bsc_edge.specs.declared.said.Said.{Said}
-use Rattle.bsc_edge.specs.Told.{Grows, ToldIs}
+use Rattle.bsc_edge.specs.Told.{Grows, ToldIs, all_told as each_told}
 use Rattle.bsc_node.specs.declared.link_name.LinkName.{LinkName}
 use Rattle.bsc_node.specs.declared.action.Action.TheVariants.{Dial, Take}
 use Rattle.bsc_node.specs.Links.{begins}
 use Rattle.bsc_node.specs.Logs.{Line, did, Log}
+use Rattle.bsc_lemmas.proofs.Booleans.{and_left, and_right}
 use Rattle.bsc_node_links.specs.Coming.{LeftBy, arrived_by, by_lines, link_by}
 use Rattle.bsc_node_links.specs.Lives.{given_over, put_over}
 use Rattle.bsc_node_links.specs.Talks.{AreFirstOf, given_in, put_in}
-use Rattle.bsc_node_links.specs.Telling.{AllFresh, AreFresh, LeavesFresh, LinksAreFresh, LinksTell, Tells, TellsOf}
+use Rattle.bsc_node_links.specs.Telling.{AllFresh, AreFresh, AreUntold, CameFresh, LeavesFresh, LinksAreFresh, LinksCameFresh, LinksTell, Tells, TellsOf}
 use Rattle.bsc_node_links.specs.Using.{HasUse}
 
 -- what is told at last, where nothing was told at first
@@ -68,5 +70,30 @@ module _ {L : Type 0} (talk : L → Option (List Said)) where
   pub links_are_fresh : LinksAreFresh talk
   links_are_fresh before after M u dialer acceptor = (
     left_fresh before.dialled.left after.dialled.left (by_lines link_by M u.links) dialer u.dialled.left,
-    left_fresh before.door.left after.door.left (by_lines arrived_by M u.links) acceptor u.arrived,
+    left_fresh before.door.left after.door.left (by_lines arrived_by M u.links) acceptor u.arrived.left,
   )
+
+  came_fresh : (before after : Option (List L)) (links : List L) → CameFresh talk after → Grows before after links → AllFresh talk links
+  came_fresh before after links f grows = by before (subst (λ (o : Option (List L)). Grows before o links) f.is grows)
+    where
+      by : (old : Option (List L)) → Grows old (Some f.links) links → AllFresh talk links
+      by None g = absurd g
+      by (Some old) g = fresh_right old links (subst (AllFresh talk) g f.fresh)
+
+  pub links_came_fresh : LinksCameFresh talk
+  links_came_fresh before after M u dialled arrived = (
+    came_fresh before.dialled.came after.dialled.came (by_lines link_by M u.links) dialled u.dialled.came,
+    came_fresh before.door.came after.door.came (by_lines arrived_by M u.links) arrived u.arrived.came,
+  )
+
+  each_fresh : (fresh : L → Bool) → AreUntold talk fresh → (links : List L) → list_all fresh links ≡ true → AllFresh talk links
+  each_fresh fresh untold [] h = tt
+  each_fresh fresh untold (l ∷ links) h = (untold l (and_left (fresh l) (list_all fresh links) h), each_fresh fresh untold links (and_right (fresh l) (list_all fresh links) h))
+
+  -- what came, where it is told
+  pub told_fresh : (fresh : L → Bool) (came : Option (List L)) → AreUntold talk fresh → each_told fresh came ≡ true → (links : List L) → came ≡ Some links → CameFresh talk came
+  told_fresh fresh came untold h links is = record {
+    links = links;
+    is = is;
+    fresh = each_fresh fresh untold links (subst (λ (o : Option (List L)). each_told fresh o ≡ true) is h);
+  }

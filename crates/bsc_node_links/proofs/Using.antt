@@ -29,8 +29,9 @@ use Rattle.bsc_node_laws.proofs.There.{begins-dial, begins-take}
 use Rattle.bsc_node_laws.proofs.Turning.{no_true}
 use Rattle.bsc_node_run.specs.declared.news.Change.{Change}
 use Rattle.bsc_node_run.specs.Performing.{Carries, Closes, Does, IsAnswered, Puts, Refuses, Takes, after_dial, kind_of}
-use Rattle.bsc_node_run.specs.Worlds.{Dialling, World, Same, forgets, is_name}
-use Rattle.bsc_node_links.specs.Coming.{EachTaken, HasDialled, IsTakenBy, LeftBy, arrived_by, by_lines, dialled_by, link_by}
+use Rattle.bsc_node_run.specs.Turning.{HasAnswered}
+use Rattle.bsc_node_run.specs.Worlds.{Admitting, Dialling, World, Same, forgets, is_name}
+use Rattle.bsc_node_links.specs.Coming.{EachTaken, HasDialled, HasGiven, IsTakenBy, LeftBy, arrived_by, by_lines, dialled_by, link_by}
 use Rattle.bsc_node_links.specs.Lives.{HasBegun, LinkLife, given_by, given_over, lines_since, put_by, put_over, until_anew}
 use Rattle.bsc_node_links.specs.Talks.{AreFirstOf, given_by as said_given, given_in, put_by as said_put, put_in}
 use Rattle.bsc_node_links.specs.Using.{HasUse}
@@ -165,38 +166,47 @@ module _ {L : Type 0} where
   left_then None (Some m) (Some n) xs ys a b = absurd a
   left_then (Some o) (Some m) (Some n) xs ys a b = a ∙ ap (λ (l : List L). xs ++ l) b ∙ sym (append_assoc xs ys n)
 
-  -- The links that left the acceptor are those that were taken or refused, and the one that has arrived.
-  abbrev pub HasArrived : Option (List L) → Option (List L) → Option L → Log → List (Option L) → Type 0
-  HasArrived first door link M K = LeftBy first door (by_lines arrived_by M K ++ option_to_list link)
+  pub given_none : (d : Admitting L) → HasGiven d d []
+  given_none d = record { left = left_none d.left; came = grows_none d.came }
+
+  given_then : (first mid last : Admitting L) (xs ys : List L) → HasGiven first mid xs → HasGiven mid last ys → HasGiven first last (xs ++ ys)
+  given_then first mid last xs ys a b = record {
+    left = left_then first.left mid.left last.left xs ys a.left b.left;
+    came = grows_then first.came mid.came last.came xs ys a.came b.came;
+  }
+
+  -- The links that the acceptor gave are those that were taken or refused, and the one that has arrived.
+  abbrev pub HasArrived : Admitting L → Admitting L → Option L → Log → List (Option L) → Type 0
+  HasArrived first door link M K = HasGiven first door (by_lines arrived_by M K ++ option_to_list link)
 
   -- At a line it is taken or refused, or stays there.
   abbrev pub Admitted : Line → Option L → Option L → Option L → Type 0
   Admitted m c before after = arrived_by m c ++ option_to_list after ≡ option_to_list before
 
-  arrived_more : (first door : Option (List L)) (k l : Option L) (M : Log) (K : List (Option L)) (m : Line) (c : Option L) → length K ≡ length M → Admitted m c k l
+  arrived_more : (first door : Admitting L) (k l : Option L) (M : Log) (K : List (Option L)) (m : Line) (c : Option L) → length K ≡ length M → Admitted m c k l
       → HasArrived first door k M K → HasArrived first door l (M ++ m ∷ []) (K ++ c ∷ [])
   arrived_more first door k l M K m c h is a =
-      subst (LeftBy first door)
+      subst (HasGiven first door)
       (ap (λ (x : List L). by_lines arrived_by M K ++ x) (sym is) ∙ sym (append_assoc (by_lines arrived_by M K) (arrived_by m c) (option_to_list l))
       ∙ ap (λ (x : List L). x ++ option_to_list l) (lines_more arrived_by M K m c h)) a
 
-  -- One more left the acceptor.
-  pub arrives : (first door door' : Option (List L)) (k : Option L) (l : L) (M : Log) (K : List (Option L)) → k ≡ None → Leaves door door' (Ok (Link l)) → HasArrived first door k M K
+  -- It gave one more.
+  pub arrives : (first door door' : Admitting L) (k : Option L) (l : L) (M : Log) (K : List (Option L)) → k ≡ None → HasAnswered door door' (Ok (Link l)) → HasArrived first door k M K
       → HasArrived first door' (Some l) M K
   arrives first door door' k l M K none leaves a =
-      subst (LeftBy first door') (ap (λ (x : List L). x ++ l ∷ []) (ap (λ (o : Option L). by_lines arrived_by M K ++ option_to_list o) none ∙ append-nil (by_lines arrived_by M K)))
-      (left_then first door door' (by_lines arrived_by M K ++ option_to_list k) (l ∷ []) a (by door door' leaves))
+      subst (HasGiven first door') (ap (λ (x : List L). x ++ l ∷ []) (ap (λ (o : Option L). by_lines arrived_by M K ++ option_to_list o) none ∙ append-nil (by_lines arrived_by M K)))
+      (given_then first door door' (by_lines arrived_by M K ++ option_to_list k) (l ∷ []) a (record { left = by door.left door'.left leaves.0; came = leaves.1 }))
     where
       by : (old new : Option (List L)) → Leaves old new (Ok (Link l)) → LeftBy old new (l ∷ [])
       by old None h = tt
       by None (Some n) h = absurd h
       by (Some o) (Some n) h = h
 
-  -- None did.
-  pub none_came : (first door door' : Option (List L)) (k : Option L) (M : Log) (K : List (Option L)) → Leaves door door' (Ok NoLink) → HasArrived first door k M K → HasArrived first door' k M K
+  -- It gave none.
+  pub none_came : (first door door' : Admitting L) (k : Option L) (M : Log) (K : List (Option L)) → HasAnswered door door' (Ok NoLink) → HasArrived first door k M K → HasArrived first door' k M K
   none_came first door door' k M K leaves a =
-      subst (LeftBy first door') (append-nil (by_lines arrived_by M K ++ option_to_list k))
-      (left_then first door door' (by_lines arrived_by M K ++ option_to_list k) [] a (by door door' leaves))
+      subst (HasGiven first door') (append-nil (by_lines arrived_by M K ++ option_to_list k))
+      (given_then first door door' (by_lines arrived_by M K ++ option_to_list k) [] a (record { left = by door.left door'.left leaves.0; came = leaves.1 }))
     where
       by : (old new : Option (List L)) → Leaves old new (Ok NoLink) → LeftBy old new []
       by old None h = tt
@@ -205,20 +215,24 @@ module _ {L : Type 0} where
 
   -- what a dialer does by one line
   abbrev pub Calls : Line → Option L → Dialling L → Dialling L → Type 0
-  Calls m c d e = Grows d.calls e.calls (dialled_by m c) × LeftBy d.left e.left (link_by m c)
+  Calls m c d e = Grows d.calls e.calls (dialled_by m c) × LeftBy d.left e.left (link_by m c) × Grows d.came e.came (link_by m c)
 
-  pub uncalled : (d e : Dialling L) → e ≡ d → Grows d.calls e.calls [] × LeftBy d.left e.left []
-  uncalled d e same = subst (λ (x : Dialling L). Grows d.calls x.calls [] × LeftBy d.left x.left []) (sym same) (grows_none d.calls, left_none d.left)
+  -- It wasn't called.
+  abbrev pub IsUncalled : Dialling L → Dialling L → Type 0
+  IsUncalled d e = Grows d.calls e.calls [] × LeftBy d.left e.left [] × Grows d.came e.came []
+
+  pub uncalled : (d e : Dialling L) → e ≡ d → IsUncalled d e
+  uncalled d e same = subst (IsUncalled d) (sym same) (grows_none d.calls, left_none d.left, grows_none d.came)
 
   answered : (name : LinkName) (uri : List ℕ) (l : Option L) (d e : Dialling L) → Grows d.calls e.calls (record { uri = uri; kind = kind_of name; came = is_some l } ∷ [])
       → IsAnswered l d e → Calls (did (Dial name uri)) l d e
-  answered name uri (Some l) d e g a = (g, by d.left e.left a.0)
+  answered name uri (Some l) d e g a = (g, by d.left e.left a.0, a.1)
     where
       by : (old new : Option (List L)) → LeavesBehind old new (Ok l) → LeftBy old new (l ∷ [])
       by old None h = tt
       by None (Some n) h = absurd h
       by (Some o) (Some n) h = h
-  answered name uri None d e g a = (g, by d.left e.left a.0)
+  answered name uri None d e g a = (g, by d.left e.left a.0, a.1)
     where
       by : (old new : Option (List L)) → LeavesBehind old new (Err Failed) → LeftBy old new []
       by old None h = tt
@@ -230,9 +244,10 @@ module _ {L : Type 0} where
   dialled_more d e f M K m c h a b = record {
     calls = subst (Grows d.calls f.calls) (lines_more dialled_by M K m c h) (grows_then d.calls e.calls f.calls (by_lines dialled_by M K) (dialled_by m c) a.calls b.0);
     left = subst (LeftBy d.left f.left) (lines_more link_by M K m c h) (left_then d.left e.left f.left (by_lines link_by M K) (link_by m c) a.left b.1);
+    came = subst (Grows d.came f.came) (lines_more link_by M K m c h) (grows_then d.came e.came f.came (by_lines link_by M K) (link_by m c) a.came b.2);
   }
 
-module _ {L : Type 0} (talk : L → Option (List Said)) (d : Dialling L) (first door : Option (List L)) where
+module _ {L : Type 0} (talk : L → Option (List Said)) (d : Dialling L) (first door : Admitting L) where
   -- ---- all links
 
   -- Each link that began, by these links that came: one that is the newest of its name by what is in hand, and each other is let go.
@@ -449,11 +464,11 @@ module _ {L : Type 0} (talk : L → Option (List Said)) (d : Dialling L) (first 
 
 -- ---- the acceptor
 
-module _ {L : Type 0} (talk : L → Option (List Said)) (d : Dialling L) (first door door' : Option (List L)) where
+module _ {L : Type 0} (talk : L → Option (List Said)) (d : Dialling L) (first door door' : Admitting L) where
   pub redoor : (w : World L) (M : Log) → ((K : List (Option L)) → HasArrived first door w.arrived M K → HasArrived first door' w.arrived M K) → Uses talk d first door w M → Uses talk d first door' w M
   redoor w M f (K, long, dialled, arrived, t, u) = (K, long, dialled, f K arrived, t, u)
 
-  pub one_came : (w : World L) (M : Log) (l : L) → w.arrived ≡ None → Leaves door door' (Ok (Link l)) → Uses talk d first door w M → Uses talk d first door' (record w { arrived = Some l }) M
+  pub one_came : (w : World L) (M : Log) (l : L) → w.arrived ≡ None → HasAnswered door door' (Ok (Link l)) → Uses talk d first door w M → Uses talk d first door' (record w { arrived = Some l }) M
   one_came w M l none leaves (K, long, dialled, arrived, t, u) = (K, long, dialled, arrives first door door' w.arrived l M K none leaves arrived, t, u)
 
 -- ---- no link has arrived

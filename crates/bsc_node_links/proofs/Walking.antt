@@ -57,11 +57,11 @@ use Rattle.bsc_node_run.specs.Turning.{Admits, AreDue, Gives, GivesLines, GivesN
 use Rattle.bsc_node_run.specs.Worlds.{Admitting, Dialling, World, Same, begun, ends, is_name, is_open, with_link}
 use Rattle.bsc_node_run.proofs.Asked.{asked_of}
 use Rattle.bsc_lemmas.proofs.Booleans.{and_left, and_right}
-use Rattle.bsc_node_links.specs.Coming.{HasDialled, IsTakenBy, LeftBy, arrived_by, by_lines}
+use Rattle.bsc_node_links.specs.Coming.{HasDialled, HasGiven, IsTakenBy, arrived_by, by_lines}
 use Rattle.bsc_node_links.specs.Lives.{LinkLife, given_by, given_over, lines_since, put_by, put_over}
 use Rattle.bsc_node_links.specs.Talks.{given_by as said_given, put_by as said_put}
 use Rattle.bsc_node_links.specs.Using.{LinksAreUsed, Outside, RunsUseLinks, ScriptRunsUseLinks}
-use Rattle.bsc_node_links.proofs.Using.{Admitted, Calls, HasArrived, IsGone, StandsBy, StandsSo, Uses, carries_none, left_none, let_go, lines_use, none_came, one_came, quiet, redoor, refused_none, same_self, says, so, stays, taken_none, takes_uses, touch, uncalled, used, uses_alike}
+use Rattle.bsc_node_links.proofs.Using.{Admitted, Calls, HasArrived, IsGone, IsUncalled, StandsBy, StandsSo, Uses, carries_none, given_none, let_go, lines_use, none_came, one_came, quiet, redoor, refused_none, same_self, says, so, stays, taken_none, takes_uses, touch, uncalled, used, uses_alike}
 
 -- A log as its own node.
 abbrev Is : Log → Log → Type 0
@@ -129,7 +129,7 @@ news_no_arrival name DidOpen = refl
 news_no_arrival name DidntOpen = refl
 news_no_arrival name WasLost = refl
 
-module _ {L : Type 0} (a : Made) (talk : L → Option (List Said)) (d0 : Dialling L) (a0 D : Option (List L)) where
+module _ {L : Type 0} (a : Made) (talk : L → Option (List Said)) (d0 : Dialling L) (a0 D : Admitting L) where
   -- An event by which nothing is given.
   pub event_use : (w v : World L) (M : Log) (t : ℕ) (e : NodeEvent) → brings_message e ≡ false → v.dialled ≡ w.dialled → v.arrived ≡ w.arrived → ((name : LinkName) → v.link name ≡ w.link name)
       → Uses talk d0 a0 D w M → Uses talk d0 a0 D v (with_event M (at t e))
@@ -172,7 +172,7 @@ arrival_none a talk M t w v (inr goes) c = refused_none talk (closing 1008 Table
 
 -- ---- a turn
 
-module _ {L : Type 0} (a : Made) (talk : L → Option (List Said)) (d0 : Dialling L) (a0 D : Option (List L)) (t : ℕ) (below : t < 2 ^ 62) where
+module _ {L : Type 0} (a : Made) (talk : L → Option (List Said)) (d0 : Dialling L) (a0 D : Admitting L) (t : ℕ) (below : t < 2 ^ 62) where
   -- What holds between two events of the turn.
   abbrev Held : Log → World L → Log → Type 0
   Held n w M = Holds a Is t ⊤ n w M
@@ -259,7 +259,7 @@ module _ {L : Type 0} (a : Made) (talk : L → Option (List Said)) (d0 : Diallin
   hears_use : (name : LinkName) (k l : L) (s : Said) (o : Option L) (w v : World L) (M : Log) (m : Line) → is_name name ≡ true → w.link name ≡ Some k
       → Grows (talk k) (talk l) (s ∷ []) → ((z : Option (Option L)) (g p : List (List ℕ)) → StandsSo talk z (Some l) g p → StandsSo talk z o g p) → ((other : LinkName) → v.link other ≡ (with_link name o w).link other) → v.dialled ≡ w.dialled → v.arrived ≡ w.arrived
       → ((other : LinkName) → begins other m ≡ false) → ((other : LinkName) → same_link name other ≡ false → given_by other m ≡ []) → given_by name m ≡ said_given s
-      → ((other : LinkName) → put_by other m ≡ []) → said_put s ≡ [] → (Grows w.dialled.calls v.dialled.calls [] × LeftBy w.dialled.left v.dialled.left [] → Calls m None w.dialled v.dialled) → (v.arrived ≡ w.arrived → Admitted m None w.arrived v.arrived) → ((c : Option L) → c ≡ None → IsTakenBy m c) → Uses talk d0 a0 D w M → Uses talk d0 a0 D v (M ++ m ∷ [])
+      → ((other : LinkName) → put_by other m ≡ []) → said_put s ≡ [] → (IsUncalled w.dialled v.dialled → Calls m None w.dialled v.dialled) → (v.arrived ≡ w.arrived → Admitted m None w.arrived v.arrived) → ((c : Option L) → c ≡ None → IsTakenBy m c) → Uses talk d0 a0 D w M → Uses talk d0 a0 D v (M ++ m ∷ [])
   hears_use name k l s o w v M m named is grew left same dials arr none apart gave put puts calls admitted taken =
       touch talk d0 a0 D name w v M m None (calls (uncalled w.dialled v.dialled dials)) (admitted arr) (taken None refl) (λ other ne. same other ∙ (apart-link name o w).link other ne) (λ other ne. none other) apart (λ other ne. put other)
       (λ z g p b h. so talk z o (v.link name) (g ++ said_given s) (g ++ given_by name m) (p ++ said_put s) (p ++ put_by name m)
@@ -345,22 +345,22 @@ module _ {L : Type 0} (a : Made) (talk : L → Option (List Said)) (d0 : Diallin
 
 -- ---- a link that arrives, and a whole turn
 
-module _ {L : Type 0} (a : Made) (talk : L → Option (List Said)) (d0 : Dialling L) (a0 : Option (List L)) (t : ℕ) (below : t < 2 ^ 62) where
-  abbrev pub FineAt : Option (List L) → Log → World L → Type 0
+module _ {L : Type 0} (a : Made) (talk : L → Option (List Said)) (d0 : Dialling L) (a0 : Admitting L) (t : ℕ) (below : t < 2 ^ 62) where
+  abbrev pub FineAt : Admitting L → Log → World L → Type 0
   FineAt D M w = Fine a talk d0 a0 D t below M w
 
-  admits_use : (listens : Bool) (n m : Log) (w v : World L) (door door' : Admitting L) → FineAt door.left n w → w.due ≡ []
-      → Admits (GoesAsDefined a) talk t listens (moment n w door) (moment m v door') → FineAt door'.left m v × (v.due ≡ [])
+  admits_use : (listens : Bool) (n m : Log) (w v : World L) (door door' : Admitting L) → FineAt door n w → w.due ≡ []
+      → Admits (GoesAsDefined a) talk t listens (moment n w door) (moment m v door') → FineAt door' m v × (v.due ≡ [])
   admits_use false n m w v door door' f none (is, same, e) =
-      (fine_same a talk d0 a0 door'.left t below n m w v is same (f.0, redoor talk d0 a0 door.left door'.left w n (λ K h. subst (λ (x : Admitting L). HasArrived a0 x.left w.arrived n K) (sym e) h) f.1, f.2), same.due ∙ none)
+      (fine_same a talk d0 a0 door' t below n m w v is same (f.0, redoor talk d0 a0 door door' w n (λ K h. subst (λ (x : Admitting L). HasArrived a0 x w.arrived n K) (sym e) h) f.1, f.2), same.due ∙ none)
   admits_use true n m w v door door' f none (waits, inl (is, same, leaves)) =
-      (fine_same a talk d0 a0 door'.left t below n m w v is same (f.0, redoor talk d0 a0 door.left door'.left w n (λ K h. none_came a0 door.left door'.left w.arrived n K leaves h) f.1, f.2), same.due ∙ none)
+      (fine_same a talk d0 a0 door' t below n m w v is same (f.0, redoor talk d0 a0 door door' w n (λ K h. none_came a0 door door' w.arrived n K leaves h) f.1, f.2), same.due ∙ none)
   admits_use true n m w v door door' f none (waits, inr (l, leaves, g)) =
-      let D : Option (List L) = door'.left in
+      let D : Admitting L = door' in
       let y : World L = record w { arrived = Some l } in
       let A : Agrees y n = record { links = f.0.0.agrees.links; others = f.0.0.agrees.others; named = f.0.0.agrees.named; finished = f.0.0.agrees.finished } in
       let r : Ready a Is t ⊤ talk n y n Arrived = ready_arrived (GoesAsDefined a) talk a Is (log_steps a) t below ⊤ n w l n f.0 in
-      let u : Uses talk d0 a0 D y n = one_came talk d0 a0 door.left D w n l f.2 leaves f.1 in (
+      let u : Uses talk d0 a0 D y n = one_came talk d0 a0 door D w n l f.2 leaves f.1 in (
         event_given a talk d0 a0 D t below n m y v Arrived r
             (λ x c. arrival_use a talk d0 a0 D n t l y x refl r.brings (event_keeps y n (at t Arrived) (λ name. refl) A) (event_use a talk d0 a0 D y y n t Arrived refl refl refl (λ name. refl) u) c)
             (λ x c. arrival_none a talk n t y x r.brings c) g,
@@ -369,17 +369,17 @@ module _ {L : Type 0} (a : Made) (talk : L → Option (List Said)) (d0 : Diallin
 
   -- ---- a turn
 
-  pub first_turn : (D : Option (List L)) (n m : Log) (w v : World L) → n ≡ [] → Agrees w [] → Uses talk d0 a0 D w [] → w.arrived ≡ None → Starts (GoesAsDefined a) talk t None n w m v → FineAt D m v
+  pub first_turn : (D : Admitting L) (n m : Log) (w v : World L) → n ≡ [] → Agrees w [] → Uses talk d0 a0 D w [] → w.arrived ≡ None → Starts (GoesAsDefined a) talk t None n w m v → FineAt D m v
   first_turn D n m w v is A u gone g =
       let r : Ready a Is t ⊤ talk [] w [] Start = ready_start (GoesAsDefined a) talk a Is (log_steps a) t below ⊤ [] w refl A in
       given_plainly a talk d0 a0 D t below [] m w v Start r refl (plain_agrees a talk d0 a0 D w [] t Start refl (event_keeps w [] (at t Start) (λ name. refl) A))
       (event_use a talk d0 a0 D w w [] t Start refl refl refl (λ name. refl) u) gone (subst (λ (N : Log). Starts (GoesAsDefined a) talk t None N w m v) is g)
 
   pub turn_uses : (start : Option ℕ) (script rest : List Due) (listens : Bool) (n m : Log) (w v : World L) (door door' : Admitting L)
-      → ((p : Log) (x y : World L) → Same x (begun w) → Starts (GoesAsDefined a) talk t start n x p y → FineAt door.left p y) → list_all asks script ≡ true
-      → Turn (GoesAsDefined a) talk t start script rest listens (moment n w door) (moment m v door') → FineAt door'.left m v × (v.due ≡ [])
+      → ((p : Log) (x y : World L) → Same x (begun w) → Starts (GoesAsDefined a) talk t start n x p y → FineAt door p y) → list_all asks script ≡ true
+      → Turn (GoesAsDefined a) talk t start script rest listens (moment n w door) (moment m v door') → FineAt door' m v × (v.due ≡ [])
   turn_uses start script rest listens n m w v door door' first asked g =
-      let D : Option (List L) = door.left in
+      let D : Admitting L = door in
       let q1 : FineAt D g.node_started g.world_started = first g.node_started g.world_begun g.world_started g.begins g.starts in
       let q2 : FineAt D g.node_ticked g.world_ticked =
       given_plainly a talk d0 a0 D t below g.node_started g.node_ticked g.world_started g.world_ticked Tick
@@ -394,7 +394,7 @@ module _ {L : Type 0} (a : Made) (talk : L → Option (List Said)) (d0 : Diallin
       let q5 : FineAt D g.node_heard g.world_heard × (g.world_heard.due ≡ []) = hears_each a talk d0 a0 D t below names g.node_given g.node_heard g.world_given g.world_heard refl q4.0 q4.1 g.heard in
       admits_use listens g.node_heard m g.world_heard v door door' q5.0 q5.1 g.admits
 
-  pub later_turn : (D : Option (List L)) (start : ℕ) (n p : Log) (w x y : World L) → FineAt D n w → w.due ≡ [] → Same x (begun w) → Starts (GoesAsDefined a) talk t (Some start) n x p y → FineAt D p y
+  pub later_turn : (D : Admitting L) (start : ℕ) (n p : Log) (w x y : World L) → FineAt D n w → w.due ≡ [] → Same x (begun w) → Starts (GoesAsDefined a) talk t (Some start) n x p y → FineAt D p y
   later_turn D start n p w x y f none same (is, stays) =
       fine_same a talk d0 a0 D t below n p x y is stays (
         (
@@ -417,19 +417,19 @@ no_line : {A : Type 0} (M : Log) (i : ℕ) (line : Line) → M ≡ [] → slice_
 no_line [] i line e h = cc
 no_line (m ∷ M) i line e h = cc
 
-none_used : {L : Type 0} (talk : L → Option (List Said)) (w : World L) (d0 : Dialling L) (a0 D : Option (List L)) → w.dialled ≡ d0 → D ≡ a0 → w.arrived ≡ None → Uses talk d0 a0 D w []
+none_used : {L : Type 0} (talk : L → Option (List Said)) (w : World L) (d0 : Dialling L) (a0 D : Admitting L) → w.dialled ≡ d0 → D ≡ a0 → w.arrived ≡ None → Uses talk d0 a0 D w []
 none_used {L} talk w d0 a0 D same door none = (
   [],
   refl,
-  record { calls = (uncalled d0 w.dialled same).0; left = (uncalled d0 w.dialled same).1 },
-  subst (λ (o : Option L). HasArrived a0 D o [] []) (sym none) (subst (λ (x : Option (List L)). LeftBy a0 x []) (sym door) (left_none a0)),
+  record { calls = (uncalled d0 w.dialled same).0; left = (uncalled d0 w.dialled same).1; came = (uncalled d0 w.dialled same).2 },
+  subst (λ (o : Option L). HasArrived a0 D o [] []) (sym none) (subst (λ (x : Admitting L). HasGiven a0 x []) (sym door) (given_none a0)),
   tt,
   λ x begun. no_line [] x.began begun.line refl begun.at,
 )
 
-module _ {L : Type 0} (a : Made) (talk : L → Option (List Said)) (d0 : Dialling L) (a0 : Option (List L)) (listens : Bool) where
+module _ {L : Type 0} (a : Made) (talk : L → Option (List Said)) (d0 : Dialling L) (a0 : Admitting L) (listens : Bool) where
   -- The time goes on.
-  fine_later : (D : Option (List L)) (from t : ℕ) (early : from < 2 ^ 62) (below : t < 2 ^ 62) (n : Log) (w : World L) → from ≤ t → Fine a talk d0 a0 D from early n w → Fine a talk d0 a0 D t below n w
+  fine_later : (D : Admitting L) (from t : ℕ) (early : from < 2 ^ 62) (below : t < 2 ^ 62) (n : Log) (w : World L) → from ≤ t → Fine a talk d0 a0 D from early n w → Fine a talk d0 a0 D t below n w
   fine_later D from t early below n w later (h, u, gone) = (
     (
       record {
@@ -446,45 +446,45 @@ module _ {L : Type 0} (a : Made) (talk : L → Option (List Said)) (d0 : Diallin
   )
 
   later_turns : (first : ℕ) (times : List ℕ) (from : ℕ) (early : from < 2 ^ 62) (script : List Due) → DontFall from times → list_all asks script ≡ true
-      → (n m : Log) (w v : World L) (door door' : Admitting L) → Fine a talk d0 a0 door.left from early n w → w.due ≡ []
-      → Turns (GoesAsDefined a) talk listens times (Some first) script (moment n w door) (moment m v door') → Uses talk d0 a0 door'.left v m × (v.arrived ≡ None)
+      → (n m : Log) (w v : World L) (door door' : Admitting L) → Fine a talk d0 a0 door from early n w → w.due ≡ []
+      → Turns (GoesAsDefined a) talk listens times (Some first) script (moment n w door) (moment m v door') → Uses talk d0 a0 door' v m × (v.arrived ≡ None)
   later_turns first [] from early script fall asked n m w v door door' f none (is, same, e) =
-      let q : Fine a talk d0 a0 door.left from early m v = fine_same a talk d0 a0 door.left from early n m w v is same f in
-      (subst (λ (x : Admitting L). Uses talk d0 a0 x.left v m) (sym e) q.1, q.2)
+      let q : Fine a talk d0 a0 door from early m v = fine_same a talk d0 a0 door from early n m w v is same f in
+      (subst (λ (x : Admitting L). Uses talk d0 a0 x v m) (sym e) q.1, q.2)
   later_turns first (t ∷ times) from early script fall asked n m w v door door' f none (rest, p, x, mid, going, g, k) =
-      let q : Fine a talk d0 a0 mid.left t fall.1 p x × (x.due ≡ []) =
+      let q : Fine a talk d0 a0 mid t fall.1 p x × (x.due ≡ []) =
       turn_uses a talk d0 a0 t fall.1 (Some first) script rest listens n p w x door mid
-      (λ o y z same s. later_turn a talk d0 a0 t fall.1 door.left first n o w y z (fine_later door.left from t early fall.1 n w fall.0 f) none same s) asked g in
+      (λ o y z same s. later_turn a talk d0 a0 t fall.1 door first n o w y z (fine_later door from t early fall.1 n w fall.0 f) none same s) asked g in
       later_turns first times t fall.1 rest fall.2 (asked_rest script g.lines rest g.parts asked) p m x v mid door' q.0 q.1 k
 
   pub turns_use : (times : List ℕ) (script : List Due) → DontFall 0 times → list_all asks script ≡ true → (text : Option (List ℕ)) (m : Log) (w v : World L) (door door' : Admitting L)
-      → a0 ≡ door.left → IsEmpty d0 text w → Turns (GoesAsDefined a) talk listens times None script (moment [] w door) (moment m v door') → Uses talk d0 a0 door'.left v m × (v.arrived ≡ None)
+      → a0 ≡ door → IsEmpty d0 text w → Turns (GoesAsDefined a) talk listens times None script (moment [] w door) (moment m v door') → Uses talk d0 a0 door' v m × (v.arrived ≡ None)
   turns_use [] script fall asked text m w v door door' from empty (is, same, e) =
-      (subst (Uses talk d0 a0 door'.left v) (sym is) (none_used talk v d0 a0 door'.left (same.dialled ∙ empty.dialled) (ap (λ (x : Admitting L). x.left) e ∙ sym from) (same.arrived ∙ empty.arrived)), same.arrived ∙ empty.arrived)
+      (subst (Uses talk d0 a0 door' v) (sym is) (none_used talk v d0 a0 door' (same.dialled ∙ empty.dialled) (e ∙ sym from) (same.arrived ∙ empty.arrived)), same.arrived ∙ empty.arrived)
   turns_use (t ∷ times) script fall asked text m w v door door' from empty (rest, p, x, mid, going, g, k) =
       later_turns t times t fall.1 rest fall.2 (asked_rest script g.lines rest g.parts asked) p m x v mid door' q.0 q.1 k
     where
-      q : Fine a talk d0 a0 mid.left t fall.1 p x × (x.due ≡ [])
+      q : Fine a talk d0 a0 mid t fall.1 p x × (x.due ≡ [])
       q = turn_uses a talk d0 a0 t fall.1 None script rest listens [] p w x door mid
-          (λ o y z same b. first_turn a talk d0 a0 t fall.1 door.left [] o y z refl (at_first d0 text w empty y same)
-          (none_used talk y d0 a0 door.left (same.dialled ∙ empty.dialled) (sym from) (same.arrived ∙ empty.arrived)) (same.arrived ∙ empty.arrived) b) asked g
+          (λ o y z same b. first_turn a talk d0 a0 t fall.1 door [] o y z refl (at_first d0 text w empty y same)
+          (none_used talk y d0 a0 door (same.dialled ∙ empty.dialled) (sym from) (same.arrived ∙ empty.arrived)) (same.arrived ∙ empty.arrived) b) asked g
 
 -- The links of a run are used as its log says.
 pub run_uses : {L : Type 0} (a : Made) (talk : L → Option (List Said)) (listens : Bool) (end : RunEnd) (turns : ℕ) (script : List Due) → list_all asks script ≡ true
     → (o p : Outside L) (M : Log)
     → Run (GoesAsDefined a) talk listens end turns script (run_moment [] o.dialled o.written o.door o.readings) (run_moment M p.dialled p.written p.door p.readings) → LinksAreUsed talk o p M
-run_uses {L} a talk listens end turns script asked o p M r = by (turns_use a talk o.dialled o.door.left listens r.times script r.rise asked o.written M r.first r.last o.door p.door refl r.empty r.went)
+run_uses {L} a talk listens end turns script asked o p M r = by (turns_use a talk o.dialled o.door listens r.times script r.rise asked o.written M r.first r.last o.door p.door refl r.empty r.went)
   where
     all_used : (z : Option (Option L)) (n : Bool) (x : LinkLife) → StandsBy talk z n (r.last.link x.name) (given_over M x) (put_over M x) → IsGone talk z (given_over M x) (put_over M x)
     all_used z true x s = s
     all_used z false x s = used talk z (r.last.link x.name) (given_over M x) (put_over M x) s
 
-    by : Uses talk o.dialled o.door.left p.door.left r.last M × (r.last.arrived ≡ None) → LinksAreUsed talk o p M
+    by : Uses talk o.dialled o.door p.door r.last M × (r.last.arrived ≡ None) → LinksAreUsed talk o p M
     by ((K, long, dialled, arrived, taken, each), none) = record {
       links = K;
       each = long;
       dialled = subst (λ (e : Dialling L). HasDialled o.dialled e M K) r.dials dialled;
-      arrived = subst (LeftBy o.door.left p.door.left) (ap (λ (x : Option L). by_lines arrived_by M K ++ option_to_list x) none ∙ append-nil (by_lines arrived_by M K)) arrived;
+      arrived = subst (HasGiven o.door p.door) (ap (λ (x : Option L). by_lines arrived_by M K ++ option_to_list x) none ∙ append-nil (by_lines arrived_by M K)) arrived;
       taken = taken;
       used = λ x begun. all_used (slice_get K x.began) (list_any (begins x.name) (lines_since M x)) x (each x begun);
     }

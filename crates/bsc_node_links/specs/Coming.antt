@@ -5,7 +5,7 @@ use Rattle.bsc_edge.specs.Told.{Grows}
 use Rattle.bsc_node.specs.declared.action.Action.TheVariants.{Dial, Take, Refuse}
 use Rattle.bsc_node.specs.Logs.{Line, did, Log}
 use Rattle.bsc_node_run.specs.Performing.{kind_of}
-use Rattle.bsc_node_run.specs.Worlds.{Dialling}
+use Rattle.bsc_node_run.specs.Worlds.{Admitting, Dialling}
 
 module _ {L : Type 0} where
   -- the call of a dialer that a line is, by the link that it gave, where it gave one
@@ -44,7 +44,13 @@ module _ {L : Type 0} where
   LeftBy None (Some new) links = ⊥
   LeftBy (Some old) (Some new) links = old ≡ links ++ new
 
+  -- An acceptor gave just these links, in order: they stood first of those that it had left, and are the last that came.
+  pub record HasGiven (before after : Admitting L) (links : List L) : Type 0 where
+    pub left : LeftBy before.left after.left links
+    pub came : Grows before.came after.came links
+
   -- A dialer was called just at the lines that dial, gave a link just where one came by such a line, and gave just these.
   pub record HasDialled (d e : Dialling L) (M : Log) (links : List (Option L)) : Type 0 where
     pub calls : Grows d.calls e.calls (by_lines dialled_by M links)
     pub left : LeftBy d.left e.left (by_lines link_by M links)
+    pub came : Grows d.came e.came (by_lines link_by M links)

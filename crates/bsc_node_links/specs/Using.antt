@@ -15,7 +15,7 @@ use Rattle.bsc_node_run.specs.Running.{Run, RunsTo}
 use Rattle.bsc_node_run.specs.Scripts.{script_of, wish_of}
 use Rattle.bsc_node_run.specs.Worlds.{Admitting, Dialling}
 use Rattle.bsc_node_laws.specs.Courses.{GoesAsDefined}
-use Rattle.bsc_node_links.specs.Coming.{EachTaken, HasDialled, LeftBy, arrived_by, by_lines}
+use Rattle.bsc_node_links.specs.Coming.{EachTaken, HasDialled, HasGiven, arrived_by, by_lines}
 use Rattle.bsc_node_links.specs.Lives.{HasBegun, LinkLife, given_over, put_over}
 use Rattle.bsc_node_links.specs.Talks.{AreFirstOf, given_in, put_in}
 
@@ -47,7 +47,7 @@ module _ {L : Type 0} (talk : L → Option (List Said)) where
     pub links : List (Option L)
     pub each : length links ≡ length M
     pub dialled : HasDialled before.dialled after.dialled M links
-    pub arrived : LeftBy before.door.left after.door.left (by_lines arrived_by M links)
+    pub arrived : HasGiven before.door after.door (by_lines arrived_by M links)
     pub taken : EachTaken M links
     pub used : (x : LinkLife) → HasBegun M x → (link : Option L) × (slice_get links x.began ≡ Some link) × HasUse link (given_over M x) (put_over M x)
 

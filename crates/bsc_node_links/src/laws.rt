@@ -1,9 +1,10 @@
 //! What is proved of the talks of a node's links, each law carried by a function that does nothing.
+ghost use Rattle.std.specs.Prelude.{◌≡◌, List, Some};
 ghost use Rattle.bsc_node_run.specs.Drawing.{Draws};
-ghost use Rattle.bsc_node_links.specs.Telling.{LinksAreFresh, LinksTell};
+ghost use Rattle.bsc_node_links.specs.Telling.{AreUntold, CameFresh, LinksAreFresh, LinksCameFresh, LinksTell};
 ghost use Rattle.bsc_node_links.specs.Using.{RunsUseLinks, ScriptRunsUseLinks};
 
-use bsc_edge::Link;
+use bsc_edge::{Acceptor, Dialer, Link};
 use bsc_node_run::Words;
 
 /// The links of a run of the definition of a node are used as the log of that node says: each gave just the messages that the log
@@ -27,4 +28,20 @@ pub fn links_tell<L: Link>()
 /// nothing.
 pub fn links_are_fresh<L: Link>()
     ensures { LinksAreFresh L.talk }
+{}
+
+/// Each link that came had told nothing, too, where dialer and acceptor tell which links came, and each of these had told nothing when
+/// it came.
+pub fn links_came_fresh<L: Link>()
+    ensures { LinksCameFresh L.talk }
+{}
+
+/// So it is of what came from a dialer that tells it, and whose links tell nothing when they come.
+pub fn dialled_came_fresh<L: Link, D: Dialer<L>>(dialer: &D)
+    ensures { AreUntold L.talk D.fresh → (links : List L) → D.came dialer.now ≡ Some links → CameFresh L.talk (D.came dialer.now) }
+{}
+
+/// And of what came from an acceptor.
+pub fn arrived_came_fresh<L: Link, A: Acceptor<L>>(acceptor: &A)
+    ensures { AreUntold L.talk A.fresh → (links : List L) → A.came acceptor.now ≡ Some links → CameFresh L.talk (A.came acceptor.now) }
 {}

@@ -6,4 +6,7 @@
 
 mod laws;
 
-pub use laws::{links_are_fresh, links_tell, runs_use_links, script_runs_use_links};
+pub use laws::{
+    arrived_came_fresh, dialled_came_fresh, links_are_fresh, links_came_fresh, links_tell,
+    runs_use_links, script_runs_use_links,
+};

@@ -44,10 +44,11 @@ module _ {L : Type 0} where
   after_dial name (Some l) w = with_news name Opened (with_link name (Some l) w)
   after_dial name None w = with_news name DialFailed w
 
-  -- What the dialer answered: a link, which stood first of those that it had left; or it failed, and its count of faults rose.
+  -- What the dialer answered: a link, which stood first of those that it had left, and is the last that came; or it failed, and its
+  -- count of faults rose.
   abbrev pub IsAnswered : Option L → Dialling L → Dialling L → Type 0
-  IsAnswered (Some l) d e = LeavesBehind d.left e.left (Ok l) × (d.faults ≤ e.faults)
-  IsAnswered None d e = LeavesBehind d.left e.left (Err Failed) × HasRisen d.faults e.faults
+  IsAnswered (Some l) d e = LeavesBehind d.left e.left (Ok l) × Grows d.came e.came (l ∷ []) × (d.faults ≤ e.faults)
+  IsAnswered None d e = LeavesBehind d.left e.left (Err Failed) × Grows d.came e.came [] × HasRisen d.faults e.faults
 
   -- A URI is dialled, once. Where a link comes, it is the link of that name. That the dial failed is new only where it did.
   abbrev pub Dials : LinkName → List ℕ → World L → World L → Type 0

@@ -6,8 +6,8 @@ use Rattle.bsc_outside.specs.Faults.{PutsPrefix}
 use Rattle.bsc_edge.specs.declared.arrived.Arrived.TheVariants.{Link}
 use Rattle.bsc_edge.specs.declared.fault.LinkFault.{LinkFault}
 use Rattle.bsc_edge.specs.declared.said.Said.{Said}
-use Rattle.bsc_edge.specs.Dialling.{dialled, Takes as LeavesBehind}
-use Rattle.bsc_edge.specs.Told.{Grows, Leaves}
+use Rattle.bsc_edge.specs.Dialling.{dialled, made_in, Takes as LeavesBehind}
+use Rattle.bsc_edge.specs.Told.{Grows}
 use Rattle.bsc_node.specs.declared.link_name.LinkName.{LinkName}
 use Rattle.bsc_node.specs.declared.node_event.NodeEvent.{NodeEvent}
 use Rattle.bsc_node.specs.declared.node_event.NodeEvent.TheVariants.{Start, Arrived, Tick}
@@ -23,7 +23,7 @@ use Rattle.bsc_node_run.specs.Moments.{Hands, Moment, Outside, RunMoment, in_han
 use Rattle.bsc_node_run.specs.Performing.{Carries, Does, kind_of}
 use Rattle.bsc_node_run.specs.Receiving.{Received}
 use Rattle.bsc_node_run.specs.Running.{DontFall, IsEmpty}
-use Rattle.bsc_node_run.specs.Turning.{AreDue, Gives, GivesLines, GivesNews, HearsEach, IsNotDue, LinkHears, Starts, Turn}
+use Rattle.bsc_node_run.specs.Turning.{AreDue, Gives, GivesLines, GivesNews, HasAnswered, HearsEach, IsNotDue, LinkHears, Starts, Turn}
 use Rattle.bsc_node_run.specs.Turning.{accept_wait, draws, event_of, names, passed_by}
 use Rattle.bsc_node_run.specs.Worlds.{Admitting, World, Same, begun, is_open}
 
@@ -41,7 +41,7 @@ module _ {L : Type 0} where
   abbrev pub DoesPart : Action → World L → World L → Type 0
   DoesPart (Dial name uri) w v = (given : Result L LinkFault)
       × Grows w.dialled.calls v.dialled.calls (dialled uri (kind_of name) given ∷ [])
-      × LeavesBehind w.dialled.left v.dialled.left given × (v.held ≡ w.held)
+      × LeavesBehind w.dialled.left v.dialled.left given × Grows w.dialled.came v.dialled.came (made_in given) × (v.held ≡ w.held)
   DoesPart (Deliver d) w v = WritesPart (delivered_line d) w v
   DoesPart (Tell note) w v = WritesPart (note_line note) w v
   DoesPart action w v = IsStill w v
@@ -93,8 +93,8 @@ module _ {N L : Type 0} (goes : N → ℕ → NodeEvent → List Action → N �
   abbrev pub AdmitStops : Bool → Moment N L → Hands L → Type 0
   AdmitStops false before after = ⊥
   AdmitStops true before after = Grows before.hands.door.waits after.door.waits (accept_wait ∷ [])
-      × (((fault : LinkFault) × Same after.world before.hands.world × Leaves before.hands.door.left after.door.left (Err fault))
-      ⊎ ((l : L) × Leaves before.hands.door.left after.door.left (Ok (Link l))
+      × (((fault : LinkFault) × Same after.world before.hands.world × HasAnswered before.hands.door after.door (Err fault))
+      ⊎ ((l : L) × HasAnswered before.hands.door after.door (Ok (Link l))
       × GiveStops Arrived before.node (record before.hands.world { arrived = Some l }) after.world))
 
   abbrev pub StartStops : Option ℕ → N → World L → World L → Type 0

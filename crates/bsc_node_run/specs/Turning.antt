@@ -4,6 +4,7 @@ use Rattle.std.specs.Prelude.{Option, Some, None, unwrap_or, Result, Ok, Err, �
 use Rattle.std.specs.List.{list_any}
 use Rattle.bsc_connector.specs.declared.side.Side.TheVariants.{Primary, Failover}
 use Rattle.bsc_direct.specs.declared.bounds.TheConstants.{SLOTS}
+use Rattle.bsc_edge.specs.declared.arrived.Arrived.{Arrived as Arriving}
 use Rattle.bsc_edge.specs.declared.arrived.Arrived.TheVariants.{Link, Quiet as NoLink}
 use Rattle.bsc_edge.specs.declared.fault.LinkFault.{LinkFault}
 use Rattle.bsc_edge.specs.declared.fault.LinkFault.TheVariants.{Failed, NoMemory}
@@ -11,7 +12,7 @@ use Rattle.bsc_edge.specs.declared.incoming.Incoming.{Incoming}
 use Rattle.bsc_edge.specs.declared.incoming.Incoming.TheVariants.{Message, Text, Quiet, Closed}
 use Rattle.bsc_edge.specs.declared.said.Said.{Said}
 use Rattle.bsc_edge.specs.declared.said.Said.TheVariants.{Gave}
-use Rattle.bsc_edge.specs.Told.{Grows, Leaves}
+use Rattle.bsc_edge.specs.Told.{Grows, Leaves, arrived_in}
 use Rattle.bsc_node.specs.declared.link_name.LinkName.{LinkName}
 use Rattle.bsc_node.specs.declared.link_name.LinkName.TheVariants.{Hub, Direct}
 use Rattle.bsc_node.specs.declared.node_event.NodeEvent.{NodeEvent}
@@ -69,6 +70,10 @@ AreDue passed (d ∷ lines) = (d.at ≤ passed) × AreDue passed lines
 abbrev pub IsNotDue : ℕ → List Due → Type 0
 IsNotDue passed [] = ⊤
 IsNotDue passed (d ∷ lines) = passed < d.at
+
+-- An acceptor answered this: a link, which stood first of those that it had left, and is the last that came; or none.
+abbrev pub HasAnswered : {L : Type 0} → Admitting L → Admitting L → Result (Arriving L) LinkFault → Type 0
+HasAnswered before after answer = Leaves before.left after.left answer × Grows before.came after.came (arrived_in answer)
 
 module _ {N L : Type 0} (goes : N → ℕ → NodeEvent → List Action → N → Type 0) (talk : L → Option (List Said)) (now : ℕ) where
   -- ---- one event
@@ -134,8 +139,8 @@ module _ {N L : Type 0} (goes : N → ℕ → NodeEvent → List Action → N �
   Admits false before after = (after.node ≡ before.node) × Same after.hands.world before.hands.world × (after.hands.door ≡ before.hands.door)
   Admits true before after = Grows before.hands.door.waits after.hands.door.waits (accept_wait ∷ [])
       × (((after.node ≡ before.node) × Same after.hands.world before.hands.world
-      × Leaves before.hands.door.left after.hands.door.left (Ok NoLink))
-      ⊎ ((l : L) × Leaves before.hands.door.left after.hands.door.left (Ok (Link l))
+      × HasAnswered before.hands.door after.hands.door (Ok NoLink))
+      ⊎ ((l : L) × HasAnswered before.hands.door after.hands.door (Ok (Link l))
       × Gives Arrived before.node (record before.hands.world { arrived = Some l }) after.node after.hands.world))
 
   -- ---- a turn

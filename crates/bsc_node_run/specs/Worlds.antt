@@ -11,26 +11,28 @@ use Rattle.bsc_node_run.specs.declared.news.Change.{Change}
 use Rattle.bsc_node_run.specs.declared.news.News.{News}
 use Rattle.bsc_node_run.specs.declared.link_set.LinkSet.{LinkSet}
 
--- What there is of a dialer at a moment: what it was asked for, and the links that it has left, as far as that is told; and
--- its count of faults.
+-- What there is of a dialer at a moment: what it was asked for, the links that it has left, and those that came, as far as that is
+-- told; and its count of faults.
 pub record Dialling (L : Type 0) : Type 0 where
   pub calls : Option (List Dialled)
   pub left : Option (List L)
+  pub came : Option (List L)
   pub faults : ℕ
 
 -- that of a dialer, by what dialers of its type tell
-abbrev pub dialling : {D L : Type 0} → (D → Option (List Dialled)) → (D → Option (List L)) → (D → ℕ) → D → Dialling L
-dialling calls left faults d = record { calls = calls d; left = left d; faults = faults d }
+abbrev pub dialling : {D L : Type 0} → (D → Option (List Dialled)) → (D → Option (List L)) → (D → Option (List L)) → (D → ℕ) → D → Dialling L
+dialling calls left came faults d = record { calls = calls d; left = left d; came = came d; faults = faults d }
 
--- What there is of an acceptor at a moment: the links that it has left, and the waits that it was asked for, as far as these
--- are told.
+-- What there is of an acceptor at a moment: the links that it has left, those that came, and the waits that it was asked for, as far
+-- as these are told.
 pub record Admitting (L : Type 0) : Type 0 where
   pub left : Option (List L)
+  pub came : Option (List L)
   pub waits : Option (List ℕ)
 
 -- that of an acceptor, by what acceptors of its type tell
-abbrev pub admitting : {A L : Type 0} → (A → Option (List L)) → (A → Option (List ℕ)) → A → Admitting L
-admitting left waits a = record { left = left a; waits = waits a }
+abbrev pub admitting : {A L : Type 0} → (A → Option (List L)) → (A → Option (List L)) → (A → Option (List ℕ)) → A → Admitting L
+admitting left came waits a = record { left = left a; came = came a; waits = waits a }
 
 -- The link of each name, where there is one; the link that arrived and wasn't taken or refused yet; the links
 -- that were taken out in this turn; what is new of links and is told to the node in this turn, and what is told in the

@@ -42,11 +42,11 @@ fn dial<L: Link + Drop, D: Dialer<L>>(
     uri: &[u8],
 ) -> Result<(), NoMemory>
     ensures dials { OnOk result ((h : Option (List ℕ)) →
-        Dials name uri.now (world_of set.old (dialling D.calls D.left D.faults dialer.old) h)
-        (world_of set.new (dialling D.calls D.left D.faults dialer.new) h)) }
+        Dials name uri.now (world_of set.old (dialling D.calls D.left D.came D.faults dialer.old) h)
+        (world_of set.new (dialling D.calls D.left D.came D.faults dialer.new) h)) }
     ensures part { OnErr result ((h : Option (List ℕ)) →
-        DoesPart (Dial name uri.now) (world_of set.old (dialling D.calls D.left D.faults dialer.old) h)
-        (world_of set.new (dialling D.calls D.left D.faults dialer.new) h)) }
+        DoesPart (Dial name uri.now) (world_of set.old (dialling D.calls D.left D.came D.faults dialer.old) h)
+        (world_of set.new (dialling D.calls D.left D.came D.faults dialer.new) h)) }
 {
     match dialer.dial(alloc, uri, kind_of(name)) {
         Ok(link) => {
@@ -223,11 +223,11 @@ fn carry_out<K: Sink, L: Link + Drop, D: Dialer<L>>(
     action: &Action,
 ) -> Result<(), Halt>
     ensures does { OnOk result (Does L.talk action.now
-        (world_of set.old (dialling D.calls D.left D.faults dialer.old) (K.held sink.old))
-        (world_of set.new (dialling D.calls D.left D.faults dialer.new) (K.held sink.new))) }
+        (world_of set.old (dialling D.calls D.left D.came D.faults dialer.old) (K.held sink.old))
+        (world_of set.new (dialling D.calls D.left D.came D.faults dialer.new) (K.held sink.new))) }
     ensures part { OnErr result (DoesPart action.now
-        (world_of set.old (dialling D.calls D.left D.faults dialer.old) (K.held sink.old))
-        (world_of set.new (dialling D.calls D.left D.faults dialer.new) (K.held sink.new))) }
+        (world_of set.old (dialling D.calls D.left D.came D.faults dialer.old) (K.held sink.old))
+        (world_of set.new (dialling D.calls D.left D.came D.faults dialer.new) (K.held sink.new))) }
     ensures failed { RisesOnWriteFault result (K.faults sink.old) (K.faults sink.new) }
     ensures later { K.faults sink.old ≤ K.faults sink.new }
     ensures accepts { result ≢ Err HaltType.AcceptFault }
@@ -254,13 +254,13 @@ pub fn perform<K: Sink, L: Link + Drop, D: Dialer<L>>(
     dialer: &mut D,
 ) -> Result<(), Halt>
     ensures carries { OnOk result (Carries L.talk actions.now
-        (world_of set.old (dialling D.calls D.left D.faults dialer.old) (K.held sink.old))
-        (world_of set.new (dialling D.calls D.left D.faults dialer.new) (K.held sink.new))) }
+        (world_of set.old (dialling D.calls D.left D.came D.faults dialer.old) (K.held sink.old))
+        (world_of set.new (dialling D.calls D.left D.came D.faults dialer.new) (K.held sink.new))) }
 
     // Where it ends by a fault, the first ones were carried out, and the next in part.
     ensures breaks { OnErr result (Breaks L.talk actions.now
-        (world_of set.old (dialling D.calls D.left D.faults dialer.old) (K.held sink.old))
-        (world_of set.new (dialling D.calls D.left D.faults dialer.new) (K.held sink.new))) }
+        (world_of set.old (dialling D.calls D.left D.came D.faults dialer.old) (K.held sink.old))
+        (world_of set.new (dialling D.calls D.left D.came D.faults dialer.new) (K.held sink.new))) }
     ensures failed { RisesOnWriteFault result (K.faults sink.old) (K.faults sink.new) }
     ensures later { K.faults sink.old ≤ K.faults sink.new }
     ensures accepts { result ≢ Err HaltType.AcceptFault }

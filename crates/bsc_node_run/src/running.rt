@@ -67,16 +67,16 @@ pub fn run_core<
     parts: &mut NodeParts<V, W, D>,
 ) -> Result<RunEnd, Halt>
     ensures runs { IfOk result (λ end. RunsTo (GoesDrawing N.goes (Draws W.gives W.faults)) L.talk terms.entry
-        (run_moment (at_rest node.old parts.old.random) (dialling D.calls D.left D.faults parts.old.dialer)
-        (K.held sink.old) (admitting A.left A.waits acceptor.old) (C.readings clock.old))
-        (run_moment (at_rest node.new parts.new.random) (dialling D.calls D.left D.faults parts.new.dialer)
-        (K.held sink.new) (admitting A.left A.waits acceptor.new) (C.readings clock.new)) end) }
+        (run_moment (at_rest node.old parts.old.random) (dialling D.calls D.left D.came D.faults parts.old.dialer)
+        (K.held sink.old) (admitting A.left A.came A.waits acceptor.old) (C.readings clock.old))
+        (run_moment (at_rest node.new parts.new.random) (dialling D.calls D.left D.came D.faults parts.new.dialer)
+        (K.held sink.new) (admitting A.left A.came A.waits acceptor.new) (C.readings clock.new)) end) }
 
     // Where it ends by a fault, what was done is as in a run up to there, and one action more in part.
     ensures fails { OnErr result (RunBreaks (GoesDrawing N.goes (Draws W.gives W.faults)) L.talk terms.entry
-        (run_moment (at_rest node.old parts.old.random) (dialling D.calls D.left D.faults parts.old.dialer)
-        (K.held sink.old) (admitting A.left A.waits acceptor.old) (C.readings clock.old))
-        (outside (dialling D.calls D.left D.faults parts.new.dialer) (K.held sink.new) (admitting A.left A.waits acceptor.new)
+        (run_moment (at_rest node.old parts.old.random) (dialling D.calls D.left D.came D.faults parts.old.dialer)
+        (K.held sink.old) (admitting A.left A.came A.waits acceptor.old) (C.readings clock.old))
+        (outside (dialling D.calls D.left D.came D.faults parts.new.dialer) (K.held sink.new) (admitting A.left A.came A.waits acceptor.new)
         (C.readings clock.new))) }
 
     // Whatever ends it, there was one wait before each turn: of no time before the first; and then of 50 ms at most, and no longer

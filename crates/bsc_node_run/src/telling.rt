@@ -68,11 +68,11 @@ fn tell<N: Core, K: Sink, L: Link + Drop, D: Dialer<L>>(
     requires { has_octets event.now ≡ true }
     ensures goes { IfOk result (λ actions. N.goes node.old at.time event.now actions.items node.new) }
     ensures carries { IfOk result (λ actions. Carries L.talk actions.items
-        (world_of set.old (dialling D.calls D.left D.faults dialer.old) (K.held sink.old))
-        (world_of set.new (dialling D.calls D.left D.faults dialer.new) (K.held sink.new))) }
+        (world_of set.old (dialling D.calls D.left D.came D.faults dialer.old) (K.held sink.old))
+        (world_of set.new (dialling D.calls D.left D.came D.faults dialer.new) (K.held sink.new))) }
     ensures stops { OnErr result (StopsAt N.goes L.talk at.time event.now node.old
-        (world_of set.old (dialling D.calls D.left D.faults dialer.old) (K.held sink.old))
-        (world_of set.new (dialling D.calls D.left D.faults dialer.new) (K.held sink.new))) }
+        (world_of set.old (dialling D.calls D.left D.came D.faults dialer.old) (K.held sink.old))
+        (world_of set.new (dialling D.calls D.left D.came D.faults dialer.new) (K.held sink.new))) }
     ensures failed { RisesOnWriteFault result (K.faults sink.old) (K.faults sink.new) }
     ensures later { K.faults sink.old ≤ K.faults sink.new }
     ensures accepts { result ≢ Err HaltType.AcceptFault }
@@ -93,12 +93,12 @@ fn tell_word<N: Core, K: Sink, W: Words, L: Link + Drop, D: Dialer<L>>(
 ) -> Result<(), Halt>
     ensures answers { OnOk result (GivesWord (GoesDrawing N.goes (Draws W.gives W.faults)) L.talk at.time true
         (record { node = node.old; words = random.old; awaits = true })
-        (world_of set.old (dialling D.calls D.left D.faults dialer.old) (K.held sink.old))
-        (at_rest node.new random.new) (world_of set.new (dialling D.calls D.left D.faults dialer.new) (K.held sink.new))) }
+        (world_of set.old (dialling D.calls D.left D.came D.faults dialer.old) (K.held sink.old))
+        (at_rest node.new random.new) (world_of set.new (dialling D.calls D.left D.came D.faults dialer.new) (K.held sink.new))) }
     ensures stops { OnErr result ((word : NodeEventType) × IsTrue (brings_word word) × StopsAt (GoesDrawing N.goes (Draws W.gives W.faults)) L.talk at.time word
         (record { node = node.old; words = random.old; awaits = true })
-        (world_of set.old (dialling D.calls D.left D.faults dialer.old) (K.held sink.old))
-        (world_of set.new (dialling D.calls D.left D.faults dialer.new) (K.held sink.new))) }
+        (world_of set.old (dialling D.calls D.left D.came D.faults dialer.old) (K.held sink.old))
+        (world_of set.new (dialling D.calls D.left D.came D.faults dialer.new) (K.held sink.new))) }
     ensures failed { RisesOnWriteFault result (K.faults sink.old) (K.faults sink.new) }
     ensures later { K.faults sink.old ≤ K.faults sink.new }
     ensures accepts { result ≢ Err HaltType.AcceptFault }
@@ -122,11 +122,11 @@ pub(crate) fn give<N: Core, K: Sink, W: Words, L: Link + Drop, D: Dialer<L>>(
 ) -> Result<(), Halt>
     requires { has_octets event.now ≡ true }
     ensures gives { OnOk result (Gives (GoesDrawing N.goes (Draws W.gives W.faults)) L.talk at.time event.now
-        (at_rest node.old random.old) (world_of set.old (dialling D.calls D.left D.faults dialer.old) (K.held sink.old))
-        (at_rest node.new random.new) (world_of set.new (dialling D.calls D.left D.faults dialer.new) (K.held sink.new))) }
+        (at_rest node.old random.old) (world_of set.old (dialling D.calls D.left D.came D.faults dialer.old) (K.held sink.old))
+        (at_rest node.new random.new) (world_of set.new (dialling D.calls D.left D.came D.faults dialer.new) (K.held sink.new))) }
     ensures stops { OnErr result (GiveStops (GoesDrawing N.goes (Draws W.gives W.faults)) L.talk at.time event.now
-        (at_rest node.old random.old) (world_of set.old (dialling D.calls D.left D.faults dialer.old) (K.held sink.old))
-        (world_of set.new (dialling D.calls D.left D.faults dialer.new) (K.held sink.new))) }
+        (at_rest node.old random.old) (world_of set.old (dialling D.calls D.left D.came D.faults dialer.old) (K.held sink.old))
+        (world_of set.new (dialling D.calls D.left D.came D.faults dialer.new) (K.held sink.new))) }
     ensures failed { RisesOnWriteFault result (K.faults sink.old) (K.faults sink.new) }
     ensures later { K.faults sink.old ≤ K.faults sink.new }
     ensures accepts { result ≢ Err HaltType.AcceptFault }

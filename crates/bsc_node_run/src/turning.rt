@@ -58,11 +58,11 @@ fn give_news<N: Core, K: Sink, W: Words, L: Link + Drop, D: Dialer<L>>(
     dialer: &mut D,
 ) -> Result<(), Halt>
     ensures gives { OnOk result ((news : List NewsType) × GivesNews (GoesDrawing N.goes (Draws W.gives W.faults)) L.talk at.time news
-        (at_rest node.old random.old) (world_of set.old (dialling D.calls D.left D.faults dialer.old) (K.held sink.old))
-        (at_rest node.new random.new) (world_of set.new (dialling D.calls D.left D.faults dialer.new) (K.held sink.new))) }
+        (at_rest node.old random.old) (world_of set.old (dialling D.calls D.left D.came D.faults dialer.old) (K.held sink.old))
+        (at_rest node.new random.new) (world_of set.new (dialling D.calls D.left D.came D.faults dialer.new) (K.held sink.new))) }
     ensures stops { OnErr result ((news : List NewsType) × NewsStop (GoesDrawing N.goes (Draws W.gives W.faults)) L.talk at.time news
-        (at_rest node.old random.old) (world_of set.old (dialling D.calls D.left D.faults dialer.old) (K.held sink.old))
-        (world_of set.new (dialling D.calls D.left D.faults dialer.new) (K.held sink.new))) }
+        (at_rest node.old random.old) (world_of set.old (dialling D.calls D.left D.came D.faults dialer.old) (K.held sink.old))
+        (world_of set.new (dialling D.calls D.left D.came D.faults dialer.new) (K.held sink.new))) }
     ensures failed { RisesOnWriteFault result (K.faults sink.old) (K.faults sink.new) }
     ensures later { K.faults sink.old ≤ K.faults sink.new }
     ensures accepts { result ≢ Err HaltType.AcceptFault }
@@ -86,12 +86,12 @@ fn give_due<'a, N: Core, K: Sink, W: Words, L: Link + Drop, D: Dialer<L>>(
     ensures gives { IfOk result (λ rest. (lines : List DueType)
         × (script.now ≡ lines ++ rest.now) × AreDue at.passed lines × IsNotDue at.passed rest.now
         × GivesLines (GoesDrawing N.goes (Draws W.gives W.faults)) L.talk at.time lines
-        (at_rest node.old random.old) (world_of set.old (dialling D.calls D.left D.faults dialer.old) (K.held sink.old))
-        (at_rest node.new random.new) (world_of set.new (dialling D.calls D.left D.faults dialer.new) (K.held sink.new))) }
+        (at_rest node.old random.old) (world_of set.old (dialling D.calls D.left D.came D.faults dialer.old) (K.held sink.old))
+        (at_rest node.new random.new) (world_of set.new (dialling D.calls D.left D.came D.faults dialer.new) (K.held sink.new))) }
     ensures stops { OnErr result ((lines rest : List DueType) × (script.now ≡ lines ++ rest) × AreDue at.passed lines
         × LinesStop (GoesDrawing N.goes (Draws W.gives W.faults)) L.talk at.time lines
-        (at_rest node.old random.old) (world_of set.old (dialling D.calls D.left D.faults dialer.old) (K.held sink.old))
-        (world_of set.new (dialling D.calls D.left D.faults dialer.new) (K.held sink.new))) }
+        (at_rest node.old random.old) (world_of set.old (dialling D.calls D.left D.came D.faults dialer.old) (K.held sink.old))
+        (world_of set.new (dialling D.calls D.left D.came D.faults dialer.new) (K.held sink.new))) }
     ensures failed { RisesOnWriteFault result (K.faults sink.old) (K.faults sink.new) }
     ensures later { K.faults sink.old ≤ K.faults sink.new }
     ensures accepts { result ≢ Err HaltType.AcceptFault }
@@ -149,11 +149,11 @@ fn hear<N: Core, K: Sink, W: Words, L: Link + Drop, D: Dialer<L>>(
     name: LinkName,
 ) -> Result<(), Halt>
     ensures hears { OnOk result (LinkHears (GoesDrawing N.goes (Draws W.gives W.faults)) L.talk at.time name
-        (at_rest node.old random.old) (world_of set.old (dialling D.calls D.left D.faults dialer.old) (K.held sink.old))
-        (at_rest node.new random.new) (world_of set.new (dialling D.calls D.left D.faults dialer.new) (K.held sink.new))) }
+        (at_rest node.old random.old) (world_of set.old (dialling D.calls D.left D.came D.faults dialer.old) (K.held sink.old))
+        (at_rest node.new random.new) (world_of set.new (dialling D.calls D.left D.came D.faults dialer.new) (K.held sink.new))) }
     ensures stops { OnErr result (HearStops (GoesDrawing N.goes (Draws W.gives W.faults)) L.talk at.time name
-        (at_rest node.old random.old) (world_of set.old (dialling D.calls D.left D.faults dialer.old) (K.held sink.old))
-        (world_of set.new (dialling D.calls D.left D.faults dialer.new) (K.held sink.new))) }
+        (at_rest node.old random.old) (world_of set.old (dialling D.calls D.left D.came D.faults dialer.old) (K.held sink.old))
+        (world_of set.new (dialling D.calls D.left D.came D.faults dialer.new) (K.held sink.new))) }
     ensures failed { RisesOnWriteFault result (K.faults sink.old) (K.faults sink.new) }
     ensures later { K.faults sink.old ≤ K.faults sink.new }
     ensures accepts { result ≢ Err HaltType.AcceptFault }
@@ -177,11 +177,11 @@ fn hear_slots<N: Core, K: Sink, W: Words, L: Link + Drop, D: Dialer<L>>(
     dialer: &mut D,
 ) -> Result<(), Halt>
     ensures hears { OnOk result (HearsEach (GoesDrawing N.goes (Draws W.gives W.faults)) L.talk at.time (slots_from SLOTS 0)
-        (at_rest node.old random.old) (world_of set.old (dialling D.calls D.left D.faults dialer.old) (K.held sink.old))
-        (at_rest node.new random.new) (world_of set.new (dialling D.calls D.left D.faults dialer.new) (K.held sink.new))) }
+        (at_rest node.old random.old) (world_of set.old (dialling D.calls D.left D.came D.faults dialer.old) (K.held sink.old))
+        (at_rest node.new random.new) (world_of set.new (dialling D.calls D.left D.came D.faults dialer.new) (K.held sink.new))) }
     ensures stops { OnErr result (EachStop (GoesDrawing N.goes (Draws W.gives W.faults)) L.talk at.time (slots_from SLOTS 0)
-        (at_rest node.old random.old) (world_of set.old (dialling D.calls D.left D.faults dialer.old) (K.held sink.old))
-        (world_of set.new (dialling D.calls D.left D.faults dialer.new) (K.held sink.new))) }
+        (at_rest node.old random.old) (world_of set.old (dialling D.calls D.left D.came D.faults dialer.old) (K.held sink.old))
+        (world_of set.new (dialling D.calls D.left D.came D.faults dialer.new) (K.held sink.new))) }
     ensures failed { RisesOnWriteFault result (K.faults sink.old) (K.faults sink.new) }
     ensures later { K.faults sink.old ≤ K.faults sink.new }
     ensures accepts { result ≢ Err HaltType.AcceptFault }
@@ -202,11 +202,11 @@ fn hear_all<N: Core, K: Sink, W: Words, L: Link + Drop, D: Dialer<L>>(
     dialer: &mut D,
 ) -> Result<(), Halt>
     ensures hears { OnOk result (HearsEach (GoesDrawing N.goes (Draws W.gives W.faults)) L.talk at.time names
-        (at_rest node.old random.old) (world_of set.old (dialling D.calls D.left D.faults dialer.old) (K.held sink.old))
-        (at_rest node.new random.new) (world_of set.new (dialling D.calls D.left D.faults dialer.new) (K.held sink.new))) }
+        (at_rest node.old random.old) (world_of set.old (dialling D.calls D.left D.came D.faults dialer.old) (K.held sink.old))
+        (at_rest node.new random.new) (world_of set.new (dialling D.calls D.left D.came D.faults dialer.new) (K.held sink.new))) }
     ensures stops { OnErr result (EachStop (GoesDrawing N.goes (Draws W.gives W.faults)) L.talk at.time names
-        (at_rest node.old random.old) (world_of set.old (dialling D.calls D.left D.faults dialer.old) (K.held sink.old))
-        (world_of set.new (dialling D.calls D.left D.faults dialer.new) (K.held sink.new))) }
+        (at_rest node.old random.old) (world_of set.old (dialling D.calls D.left D.came D.faults dialer.old) (K.held sink.old))
+        (world_of set.new (dialling D.calls D.left D.came D.faults dialer.new) (K.held sink.new))) }
     ensures failed { RisesOnWriteFault result (K.faults sink.old) (K.faults sink.new) }
     ensures later { K.faults sink.old ≤ K.faults sink.new }
     ensures accepts { result ≢ Err HaltType.AcceptFault }
@@ -244,15 +244,15 @@ fn admit<N: Core, K: Sink, W: Words, L: Link + Drop, A: Acceptor<L>, D: Dialer<L
     dialer: &mut D,
 ) -> Result<(), Halt>
     ensures admits { OnOk result (Admits (GoesDrawing N.goes (Draws W.gives W.faults)) L.talk at.time at.listens
-        (moment (at_rest node.old random.old) (world_of set.old (dialling D.calls D.left D.faults dialer.old) (K.held sink.old))
-        (admitting A.left A.waits acceptor.old))
-        (moment (at_rest node.new random.new) (world_of set.new (dialling D.calls D.left D.faults dialer.new) (K.held sink.new))
-        (admitting A.left A.waits acceptor.new))) }
+        (moment (at_rest node.old random.old) (world_of set.old (dialling D.calls D.left D.came D.faults dialer.old) (K.held sink.old))
+        (admitting A.left A.came A.waits acceptor.old))
+        (moment (at_rest node.new random.new) (world_of set.new (dialling D.calls D.left D.came D.faults dialer.new) (K.held sink.new))
+        (admitting A.left A.came A.waits acceptor.new))) }
     ensures stops { OnErr result (AdmitStops (GoesDrawing N.goes (Draws W.gives W.faults)) L.talk at.time at.listens
-        (moment (at_rest node.old random.old) (world_of set.old (dialling D.calls D.left D.faults dialer.old) (K.held sink.old))
-        (admitting A.left A.waits acceptor.old))
-        (in_hands (world_of set.new (dialling D.calls D.left D.faults dialer.new) (K.held sink.new))
-        (admitting A.left A.waits acceptor.new))) }
+        (moment (at_rest node.old random.old) (world_of set.old (dialling D.calls D.left D.came D.faults dialer.old) (K.held sink.old))
+        (admitting A.left A.came A.waits acceptor.old))
+        (in_hands (world_of set.new (dialling D.calls D.left D.came D.faults dialer.new) (K.held sink.new))
+        (admitting A.left A.came A.waits acceptor.new))) }
     ensures failed { RisesOnWriteFault result (K.faults sink.old) (K.faults sink.new) }
     ensures later { K.faults sink.old ≤ K.faults sink.new }
     ensures accept { RisesOnAcceptFault result (A.faults acceptor.old) (A.faults acceptor.new) }
@@ -284,11 +284,11 @@ fn begin<N: Core, K: Sink, W: Words, L: Link + Drop, D: Dialer<L>>(
     start: Option<u64>,
 ) -> Result<(), Halt>
     ensures starts { OnOk result (Starts (GoesDrawing N.goes (Draws W.gives W.faults)) L.talk at.time start
-        (at_rest node.old random.old) (world_of set.old (dialling D.calls D.left D.faults dialer.old) (K.held sink.old))
-        (at_rest node.new random.new) (world_of set.new (dialling D.calls D.left D.faults dialer.new) (K.held sink.new))) }
+        (at_rest node.old random.old) (world_of set.old (dialling D.calls D.left D.came D.faults dialer.old) (K.held sink.old))
+        (at_rest node.new random.new) (world_of set.new (dialling D.calls D.left D.came D.faults dialer.new) (K.held sink.new))) }
     ensures stops { OnErr result (StartStops (GoesDrawing N.goes (Draws W.gives W.faults)) L.talk at.time start
-        (at_rest node.old random.old) (world_of set.old (dialling D.calls D.left D.faults dialer.old) (K.held sink.old))
-        (world_of set.new (dialling D.calls D.left D.faults dialer.new) (K.held sink.new))) }
+        (at_rest node.old random.old) (world_of set.old (dialling D.calls D.left D.came D.faults dialer.old) (K.held sink.old))
+        (world_of set.new (dialling D.calls D.left D.came D.faults dialer.new) (K.held sink.new))) }
     ensures failed { RisesOnWriteFault result (K.faults sink.old) (K.faults sink.new) }
     ensures later { K.faults sink.old ≤ K.faults sink.new }
     ensures accepts { result ≢ Err HaltType.AcceptFault }
@@ -333,20 +333,20 @@ pub fn node_turn<
 ) -> Result<TurnEnd<'a>, Halt>
     ensures turns { IfOk result (λ r. TurnsTo (GoesDrawing N.goes (Draws W.gives W.faults)) L.talk from.entry
         (moment (at_rest node.old parts.old.random)
-        (world_of set.old (dialling D.calls D.left D.faults parts.old.dialer) (K.held sink.old))
-        (admitting A.left A.waits acceptor.old))
+        (world_of set.old (dialling D.calls D.left D.came D.faults parts.old.dialer) (K.held sink.old))
+        (admitting A.left A.came A.waits acceptor.old))
         (moment (at_rest node.new parts.new.random)
-        (world_of set.new (dialling D.calls D.left D.faults parts.new.dialer) (K.held sink.new))
-        (admitting A.left A.waits acceptor.new)) r) }
+        (world_of set.new (dialling D.calls D.left D.came D.faults parts.new.dialer) (K.held sink.new))
+        (admitting A.left A.came A.waits acceptor.new)) r) }
 
     // Where it ends by a fault, its parts went through in this order, up to the one in which it stopped.
     ensures stops { OnErr result ((t : ℕ) × Grows (C.readings clock.old) (C.readings clock.new) (t ∷ []) × (t < 2 ^ 62)
         × (C.newest clock.old ≤ t) × TurnBreaks (GoesDrawing N.goes (Draws W.gives W.faults)) L.talk t from.entry
         (moment (at_rest node.old parts.old.random)
-        (world_of set.old (dialling D.calls D.left D.faults parts.old.dialer) (K.held sink.old))
-        (admitting A.left A.waits acceptor.old))
-        (in_hands (world_of set.new (dialling D.calls D.left D.faults parts.new.dialer) (K.held sink.new))
-        (admitting A.left A.waits acceptor.new))) }
+        (world_of set.old (dialling D.calls D.left D.came D.faults parts.old.dialer) (K.held sink.old))
+        (admitting A.left A.came A.waits acceptor.old))
+        (in_hands (world_of set.new (dialling D.calls D.left D.came D.faults parts.new.dialer) (K.held sink.new))
+        (admitting A.left A.came A.waits acceptor.new))) }
     ensures reading { IfOk result (λ r. Grows (C.readings clock.old) (C.readings clock.new) (r.time ∷ [])) }
     ensures below { IfOk result (λ r. r.time < 2 ^ 62) }
 

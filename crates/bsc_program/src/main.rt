@@ -16,7 +16,7 @@ use bsc_node_run::NodeParts;
 use bsc_player::out_of_memory;
 use bsc_serve::ServingParts;
 use bsc_words::{Asked, ReadWords};
-use parts::{Rooms, Sockets, rooms_of, sockets_of};
+use parts::{Rooms, rooms_of, sockets_of};
 use running::{acceptor_of, outside_of, run_outside, sink_of, source_of, spawner_of, tell_why};
 use std::alloc::Global;
 use std::process::ExitCode;
@@ -54,11 +54,7 @@ fn main(rt: HostRuntime) -> ExitCode {
     let Ok(sockets) = sockets_of(rt, alloc, kind_of(&read), rt.stderr()) else {
         return ExitCode::from(out_of_memory(&mut sink));
     };
-    let Sockets {
-        waiter,
-        dialer,
-        door,
-    } = sockets;
+    let (waiter, dialer, door) = sockets;
     let begin = move |alloc: Global, places: &Arc<Places>, job: RealJob| -> Result<
         SessionThread<HostRuntime, <HostRuntime as fs::Files>::File>,
         Unstarted<RealJob>,

@@ -1,5 +1,5 @@
 //! The run, as `main` asks for it.
-ghost use Rattle.std.specs.Prelude.{◌≡◌, None};
+ghost use Rattle.std.specs.Prelude.{◌≡◌, [], Some, None};
 
 use bsc_commands::{Outside, run};
 use bsc_edge::{
@@ -22,18 +22,26 @@ use std::net::Net;
 use std::sync::{Arc, Wait};
 use std::thread::Threads;
 
-/// The input over this reader.
-pub(crate) fn source_of<I: Read>(alloc: Global, reader: I) -> ToldSource<KeptSource<I>> {
+/// The input over this reader. It tells each read, and none was made.
+pub(crate) fn source_of<I: Read>(alloc: Global, reader: I) -> ToldSource<KeptSource<I>>
+    ensures reads { ⟦<ToldSource<KeptSource<I>> as Source>⟧.reads result ≡ Some [] }
+{
     ToldSource::new(KeptSource::new(alloc, reader))
 }
 
-/// The output over this writer.
-pub(crate) fn sink_of<X: Write>(writer: X) -> NotedSink<WriterSink<ToldWriter<X>>> {
+/// The output over this writer. It tells what was taken of it, and nothing was.
+pub(crate) fn sink_of<X: Write>(writer: X) -> NotedSink<WriterSink<ToldWriter<X>>>
+    ensures held { ⟦<NotedSink<WriterSink<ToldWriter<X>>> as Sink>⟧.held result ≡ Some [] }
+{
     NotedSink::new(WriterSink::new(ToldWriter::new(writer)))
 }
 
-/// The acceptor over this one.
-pub(crate) fn acceptor_of<A>(acceptor: A) -> NotedAcceptor<A> {
+/// The acceptor over this one. It tells what that one does: its port, its waits and the links that came.
+pub(crate) fn acceptor_of<L, A: Acceptor<L>>(acceptor: A) -> NotedAcceptor<A>
+    ensures bound { ⟦<NotedAcceptor<A> as Acceptor<L>>⟧.bound result ≡ A.bound acceptor }
+    ensures waits { ⟦<NotedAcceptor<A> as Acceptor<L>>⟧.waits result ≡ A.waits acceptor }
+    ensures came { ⟦<NotedAcceptor<A> as Acceptor<L>>⟧.came result ≡ A.came acceptor }
+{
     NotedAcceptor::new(acceptor)
 }
 

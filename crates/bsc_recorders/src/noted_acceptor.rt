@@ -52,6 +52,12 @@ impl<L, A: Acceptor<L>> Acceptor<L> for NotedAcceptor<A> {
 
     ghost left = { λ a. A.left a.acceptor };
 
+    ghost came = { λ a. A.came a.acceptor };
+
+    ghost fresh = { A.fresh };
+
+    ghost came_fresh = { λ a. A.came_fresh a.acceptor };
+
     ghost waits = { λ a. A.waits a.acceptor };
 
     fn bind(&mut self, port: u16, owner: Vmac) -> Result<(), Failed> {

@@ -1,5 +1,7 @@
 //! A dialer of links in memory of their own.
-ghost use Rattle.std.specs.Prelude.{◌≡◌, [], None, Some};
+ghost use Rattle.std.specs.Prelude.{◌≡◌, ◌&&◌, None};
+ghost use Rattle.std.proofs.Common.{refl};
+ghost use Rattle.bsc_edge.specs.Told.{is_untold};
 
 use crate::boxed_link::BoxedLink;
 use bsc_edge::{Dialer, Kind, Link, LinkFault, ToldLink};
@@ -26,8 +28,10 @@ impl<L: Link + Drop, D: Dialer<L>> Dialer<BoxedLink<ToldLink<L>>> for BoxingDial
 
     ghost left = { λ _. None };
 
+    ghost came_fresh = { λ _. refl };
+
     // Nothing was said on a link that comes.
-    ghost fresh = { λ l. (⟦<ToldLink<L> as Link>⟧.talk l.link.value ≡ Some []) × (⟦<ToldLink<L> as Link>⟧.notices l.link.value ≡ Some []) };
+    ghost fresh = { λ l. is_untold (⟦<ToldLink<L> as Link>⟧.talk l.link.value) && is_untold (⟦<ToldLink<L> as Link>⟧.notices l.link.value) };
 
     fn dial(
         &mut self,

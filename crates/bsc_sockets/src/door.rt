@@ -1,7 +1,7 @@
 //! The real acceptor, and what an operator is told of it.
-ghost use Rattle.std.specs.Prelude.{◌≡◌, ◌≤◌, [], None, Some};
-ghost use Rattle.std.specs.List.{AllByRecursion};
-ghost use Rattle.bsc_edge.specs.Told.{arrived_in};
+ghost use Rattle.std.specs.Prelude.{◌≡◌, ◌≤◌, true, ◌&&◌, [], None, Some};
+ghost use Rattle.std.specs.List.{list_all};
+ghost use Rattle.bsc_edge.specs.Told.{arrived_in, is_untold};
 
 use crate::boxed_link::BoxedLink;
 use crate::links::RealLink;
@@ -40,6 +40,8 @@ pub struct Door<R: Clock + Net + Wait + Eprint + Copy + Drop> {
     bound: Option<u16>,
     waits: Past<u32>,
     came: Past<RealLink<R>>,
+    // Nothing was said on a link that came, when it came.
+    ghost came_fresh: { list_all (λ l. is_untold (Some l.link.value.talk.items) && is_untold (Some l.link.value.notices.items)) came.items ≡ true },
 }
 
 impl<R: Clock + Net + Wait + Eprint + Copy + Drop> Door<R> {
@@ -65,7 +67,17 @@ impl<R: Clock + Net + Wait + Eprint + Copy + Drop> Door<R> {
 
     /// The same door, with a log there, where the environment asks for one.
     pub fn logged_at(self, stderr: Stderr) -> Door<R>
-        ensures { result ≡ record self { stderr = Some stderr } }
+        ensures rt { result.rt ≡ self.rt }
+        ensures alloc { result.alloc ≡ self.alloc }
+        ensures kind { result.kind ≡ self.kind }
+        ensures shared { result.shared ≡ self.shared }
+        ensures stderr { result.stderr ≡ Some stderr }
+        ensures gate { result.gate ≡ self.gate }
+        ensures faults { result.faults ≡ self.faults }
+        ensures quiets { result.quiets ≡ self.quiets }
+        ensures bound { result.bound ≡ self.bound }
+        ensures waits { result.waits ≡ self.waits }
+        ensures came { result.came ≡ self.came }
     {
         let mut door = self;
         door.stderr = Some(stderr);
@@ -142,7 +154,8 @@ fn boxed<L: Link + Drop>(
     alloc: Global,
     answer: Result<Arrived<L>, LinkFault>,
 ) -> Result<Arrived<BoxedLink<ToldLink<L>>>, LinkFault>
-    ensures fresh { AllByRecursion (λ l. (⟦<BoxedLink<ToldLink<L>> as Link>⟧.talk l ≡ Some []) × (⟦<BoxedLink<ToldLink<L>> as Link>⟧.notices l ≡ Some [])) (arrived_in result) }
+    ensures fresh { list_all (λ l. is_untold (⟦<BoxedLink<ToldLink<L>> as Link>⟧.talk l) && is_untold (⟦<BoxedLink<ToldLink<L>> as Link>⟧.notices l))
+        (arrived_in result) ≡ true }
 {
     match answer {
         Ok(Arrived::Link(link)) => {
@@ -168,7 +181,9 @@ impl<R: Clock + Net + Wait + Eprint + Env + RandomSource + Copy + Drop> Acceptor
     ghost waits = { λ d. Some d.waits.items };
 
     // Nothing was said on a link that comes.
-    ghost fresh = { λ l. (⟦<RealLink<R> as Link>⟧.talk l ≡ Some []) × (⟦<RealLink<R> as Link>⟧.notices l ≡ Some []) };
+    ghost fresh = { λ l. is_untold (⟦<RealLink<R> as Link>⟧.talk l) && is_untold (⟦<RealLink<R> as Link>⟧.notices l) };
+
+    ghost came_fresh = { λ d. d.came_fresh };
 
     fn bind(&mut self, port: u16, owner: Vmac) -> Result<(), Failed> {
         match open(self.rt, self.alloc, self.kind, port, owner, &self.shared) {

@@ -10,6 +10,7 @@ use bsc_octets::NoMemory;
 use bsc_ws::StreamDialer;
 use std::alloc::Global;
 use std::net::Net;
+use std::random::RandomSource;
 use std::sync::{Arc, Wait};
 use std::time::Clock;
 
@@ -24,7 +25,7 @@ pub type RealDialer<R> = ToldDialer<
 >;
 
 /// The dialer of links over sockets, which share this.
-pub fn real_dialer<R: Clock + Net + Wait + Copy + Drop>(
+pub fn real_dialer<R: Clock + Net + RandomSource + Wait + Copy + Drop>(
     rt: R,
     alloc: Global,
     shared: Shared,

@@ -1,5 +1,6 @@
 //! The dialer of links over streams.
 ghost use Rattle.std.specs.Prelude.{◌≡◌, ◌≤◌, [], ◌∷◌, None, Err, IsErr};
+ghost use Rattle.std.proofs.Common.{refl};
 ghost use Rattle.bsc_edge.specs.Dialling.{dialled, Takes};
 ghost use Rattle.bsc_edge.specs.Told.{Grows};
 ghost use Rattle.bsc_edge.specs.declared.fault.LinkFault.{LinkFault};
@@ -59,6 +60,8 @@ impl<T: Read + Write + Drop, W: Patience + Drop, K: MaskKeys + Drop, O: Opener<T
     ghost calls = { λ _. None };
 
     ghost left = { λ _. None };
+
+    ghost came_fresh = { λ _. refl };
 
     fn dial(
         &mut self,

@@ -43,8 +43,8 @@ returns-in-Node-clause-node g c path script named =
     let C = g.C.Clock in
     let V = g.V.Waiter in
     let F = g.F.Files in
-    let before : CommandWorld g.row.L.Denot g.row.W.Denot = record { unread = F.faults c.args.outside.now.files; beside = record { dialled = dialling D.calls D.left D.faults c.args.outside.now.node.dialer; door = admitting A.left A.waits c.args.outside.now.parts.acceptor; port = A.bound c.args.outside.now.parts.acceptor; faults = A.faults c.args.outside.now.parts.acceptor; readings = C.readings c.args.outside.now.parts.clock; waited = V.waits c.args.outside.now.node.waiter; random = c.args.outside.now.node.random; written = g.K.Sink.held c.args.outside.now.sink } } in
-    let after : CommandWorld g.row.L.Denot g.row.W.Denot = record { unread = F.faults c.run_node_files.new.files; beside = record { dialled = dialling D.calls D.left D.faults c.run_node_files.new.parts.dialer; door = admitting A.left A.waits c.run_node_files.new.acceptor; port = A.bound c.run_node_files.new.acceptor; faults = A.faults c.run_node_files.new.acceptor; readings = C.readings c.run_node_files.new.clock; waited = V.waits c.run_node_files.new.parts.waiter; random = c.run_node_files.new.parts.random; written = g.K.Sink.held c.run_node_files.new.sink } } in
+    let before : CommandWorld g.row.L.Denot g.row.W.Denot = record { unread = F.faults c.args.outside.now.files; beside = record { dialled = dialling D.calls D.left D.came D.faults c.args.outside.now.node.dialer; door = admitting A.left A.came A.waits c.args.outside.now.parts.acceptor; port = A.bound c.args.outside.now.parts.acceptor; faults = A.faults c.args.outside.now.parts.acceptor; readings = C.readings c.args.outside.now.parts.clock; waited = V.waits c.args.outside.now.node.waiter; random = c.args.outside.now.node.random; written = g.K.Sink.held c.args.outside.now.sink } } in
+    let after : CommandWorld g.row.L.Denot g.row.W.Denot = record { unread = F.faults c.run_node_files.new.files; beside = record { dialled = dialling D.calls D.left D.came D.faults c.run_node_files.new.parts.dialer; door = admitting A.left A.came A.waits c.run_node_files.new.acceptor; port = A.bound c.run_node_files.new.acceptor; faults = A.faults c.run_node_files.new.acceptor; readings = C.readings c.run_node_files.new.clock; waited = V.waits c.run_node_files.new.parts.waiter; random = c.run_node_files.new.parts.random; written = g.K.Sink.held c.run_node_files.new.sink } } in
     of_node (λ (p q : Text). RunsFiles g.L.Link.talk (Draws g.W.Words.gives g.W.Words.faults) (record { settings = F.holds c.args.outside.now.files p; script = F.holds c.args.outside.now.files q }) before after c.run_node_files.result)
     c.in-Node.path.now path c.in-Node.script.now script (sym (ap seen c.in-Node.is) ∙ named) c.run_node_files.ensures.runs
 

@@ -31,8 +31,8 @@ loop-made-init g c = record {
 pub returns-then-set-clause-runs : goal.returns-then-set-clause-runs
 returns-then-set-clause-runs g c = record {
   times = c.loop-made.invariant.times ++ c.in_ok-turn.turn.time ∷ [];
-  first = world_of c.in_ok-set.set (dialling g.D.Dialer.calls g.D.Dialer.left g.D.Dialer.faults c.args.parts.now.dialer) (g.K.Sink.held c.args.sink.now);
-  last = (world_of c.node_turn.new.set (dialling g.D.Dialer.calls g.D.Dialer.left g.D.Dialer.faults c.node_turn.new.parts.dialer) (g.K.Sink.held c.node_turn.new.sink));
+  first = world_of c.in_ok-set.set (dialling g.D.Dialer.calls g.D.Dialer.left g.D.Dialer.came g.D.Dialer.faults c.args.parts.now.dialer) (g.K.Sink.held c.args.sink.now);
+  last = (world_of c.node_turn.new.set (dialling g.D.Dialer.calls g.D.Dialer.left g.D.Dialer.came g.D.Dialer.faults c.node_turn.new.parts.dialer) (g.K.Sink.held c.node_turn.new.sink));
   empty = record {
     link = c.in_ok-set.ensures.links;
     arrived = c.in_ok-set.ensures.arrived;
@@ -42,11 +42,11 @@ returns-then-set-clause-runs g c = record {
     dialled = refl;
     held = refl;
   };
-  went = turns_all (GoesDrawing g.N.Core.goes (Draws g.W.Words.gives g.W.Words.faults)) g.L.Link.talk c.args.terms.listens None c.args.terms.script.now (at_rest c.args.node.now c.args.parts.now.random) (world_of c.in_ok-set.set (dialling g.D.Dialer.calls g.D.Dialer.left g.D.Dialer.faults c.args.parts.now.dialer) (g.K.Sink.held c.args.sink.now)) (admitting g.A.Acceptor.left g.A.Acceptor.waits c.args.acceptor.now)
-      (c.loop-made.invariant.times ++ c.in_ok-turn.turn.time ∷ []) (Some (unwrap_or c.loop-made.start c.in_ok-turn.turn.time)) c.in_ok-turn.turn.left.now (at_rest c.node_turn.new.node c.node_turn.new.parts.random) (world_of c.node_turn.new.set (dialling g.D.Dialer.calls g.D.Dialer.left g.D.Dialer.faults c.node_turn.new.parts.dialer) (g.K.Sink.held c.node_turn.new.sink)) (admitting g.A.Acceptor.left g.A.Acceptor.waits c.node_turn.new.acceptor)
-      (turns_more (GoesDrawing g.N.Core.goes (Draws g.W.Words.gives g.W.Words.faults)) g.L.Link.talk c.args.terms.listens None c.args.terms.script.now (at_rest c.args.node.now c.args.parts.now.random) (world_of c.in_ok-set.set (dialling g.D.Dialer.calls g.D.Dialer.left g.D.Dialer.faults c.args.parts.now.dialer) (g.K.Sink.held c.args.sink.now)) (admitting g.A.Acceptor.left g.A.Acceptor.waits c.args.acceptor.now)
+  went = turns_all (GoesDrawing g.N.Core.goes (Draws g.W.Words.gives g.W.Words.faults)) g.L.Link.talk c.args.terms.listens None c.args.terms.script.now (at_rest c.args.node.now c.args.parts.now.random) (world_of c.in_ok-set.set (dialling g.D.Dialer.calls g.D.Dialer.left g.D.Dialer.came g.D.Dialer.faults c.args.parts.now.dialer) (g.K.Sink.held c.args.sink.now)) (admitting g.A.Acceptor.left g.A.Acceptor.came g.A.Acceptor.waits c.args.acceptor.now)
+      (c.loop-made.invariant.times ++ c.in_ok-turn.turn.time ∷ []) (Some (unwrap_or c.loop-made.start c.in_ok-turn.turn.time)) c.in_ok-turn.turn.left.now (at_rest c.node_turn.new.node c.node_turn.new.parts.random) (world_of c.node_turn.new.set (dialling g.D.Dialer.calls g.D.Dialer.left g.D.Dialer.came g.D.Dialer.faults c.node_turn.new.parts.dialer) (g.K.Sink.held c.node_turn.new.sink)) (admitting g.A.Acceptor.left g.A.Acceptor.came g.A.Acceptor.waits c.node_turn.new.acceptor)
+      (turns_more (GoesDrawing g.N.Core.goes (Draws g.W.Words.gives g.W.Words.faults)) g.L.Link.talk c.args.terms.listens None c.args.terms.script.now (at_rest c.args.node.now c.args.parts.now.random) (world_of c.in_ok-set.set (dialling g.D.Dialer.calls g.D.Dialer.left g.D.Dialer.came g.D.Dialer.faults c.args.parts.now.dialer) (g.K.Sink.held c.args.sink.now)) (admitting g.A.Acceptor.left g.A.Acceptor.came g.A.Acceptor.waits c.args.acceptor.now)
       c.loop-made.invariant.times c.in_ok-turn.turn.time c.loop-made.start c.loop-made.left.now c.in_ok-turn.turn.left.now (at_rest c.loop-made.node c.loop-made.parts.random) (at_rest c.node_turn.new.node c.node_turn.new.parts.random)
-      (world_of c.loop-made.set (dialling g.D.Dialer.calls g.D.Dialer.left g.D.Dialer.faults c.loop-made.parts.dialer) (g.K.Sink.held c.loop-made.sink)) (world_of c.node_turn.new.set (dialling g.D.Dialer.calls g.D.Dialer.left g.D.Dialer.faults c.node_turn.new.parts.dialer) (g.K.Sink.held c.node_turn.new.sink)) (admitting g.A.Acceptor.left g.A.Acceptor.waits c.loop-made.acceptor) (admitting g.A.Acceptor.left g.A.Acceptor.waits c.node_turn.new.acceptor)
+      (world_of c.loop-made.set (dialling g.D.Dialer.calls g.D.Dialer.left g.D.Dialer.came g.D.Dialer.faults c.loop-made.parts.dialer) (g.K.Sink.held c.loop-made.sink)) (world_of c.node_turn.new.set (dialling g.D.Dialer.calls g.D.Dialer.left g.D.Dialer.came g.D.Dialer.faults c.node_turn.new.parts.dialer) (g.K.Sink.held c.node_turn.new.sink)) (admitting g.A.Acceptor.left g.A.Acceptor.came g.A.Acceptor.waits c.loop-made.acceptor) (admitting g.A.Acceptor.left g.A.Acceptor.came g.A.Acceptor.waits c.node_turn.new.acceptor)
       c.loop-made.invariant.turns c.loop-made.invariant.going c.in_ok-turn.ensures.turns);
   dials = refl;
   holds = refl;
@@ -65,14 +65,14 @@ loop-made-preserved g c = record {
       c.loop-made.invariant.readings c.in_ok-turn.ensures.reading;
   count = one_longer c.loop-made.invariant.times c.in_ok-turn.turn.time c.loop-made.made c.loop-made.invariant.count;
   going = c.if-set.false;
-  turns = λ more m v door k. turns_more (GoesDrawing g.N.Core.goes (Draws g.W.Words.gives g.W.Words.faults)) g.L.Link.talk c.args.terms.listens None c.args.terms.script.now (at_rest c.args.node.now c.args.parts.now.random) (world_of c.in_ok-set.set (dialling g.D.Dialer.calls g.D.Dialer.left g.D.Dialer.faults c.args.parts.now.dialer) (g.K.Sink.held c.args.sink.now)) (admitting g.A.Acceptor.left g.A.Acceptor.waits c.args.acceptor.now)
+  turns = λ more m v door k. turns_more (GoesDrawing g.N.Core.goes (Draws g.W.Words.gives g.W.Words.faults)) g.L.Link.talk c.args.terms.listens None c.args.terms.script.now (at_rest c.args.node.now c.args.parts.now.random) (world_of c.in_ok-set.set (dialling g.D.Dialer.calls g.D.Dialer.left g.D.Dialer.came g.D.Dialer.faults c.args.parts.now.dialer) (g.K.Sink.held c.args.sink.now)) (admitting g.A.Acceptor.left g.A.Acceptor.came g.A.Acceptor.waits c.args.acceptor.now)
       c.loop-made.invariant.times c.in_ok-turn.turn.time c.loop-made.start c.loop-made.left.now c.in_ok-turn.turn.left.now (at_rest c.loop-made.node c.loop-made.parts.random) (at_rest c.node_turn.new.node c.node_turn.new.parts.random)
-      (world_of c.loop-made.set (dialling g.D.Dialer.calls g.D.Dialer.left g.D.Dialer.faults c.loop-made.parts.dialer) (g.K.Sink.held c.loop-made.sink)) (world_of c.node_turn.new.set (dialling g.D.Dialer.calls g.D.Dialer.left g.D.Dialer.faults c.node_turn.new.parts.dialer) (g.K.Sink.held c.node_turn.new.sink)) (admitting g.A.Acceptor.left g.A.Acceptor.waits c.loop-made.acceptor) (admitting g.A.Acceptor.left g.A.Acceptor.waits c.node_turn.new.acceptor)
+      (world_of c.loop-made.set (dialling g.D.Dialer.calls g.D.Dialer.left g.D.Dialer.came g.D.Dialer.faults c.loop-made.parts.dialer) (g.K.Sink.held c.loop-made.sink)) (world_of c.node_turn.new.set (dialling g.D.Dialer.calls g.D.Dialer.left g.D.Dialer.came g.D.Dialer.faults c.node_turn.new.parts.dialer) (g.K.Sink.held c.node_turn.new.sink)) (admitting g.A.Acceptor.left g.A.Acceptor.came g.A.Acceptor.waits c.loop-made.acceptor) (admitting g.A.Acceptor.left g.A.Acceptor.came g.A.Acceptor.waits c.node_turn.new.acceptor)
       c.loop-made.invariant.turns c.loop-made.invariant.going c.in_ok-turn.ensures.turns
       more m v door (rw c.unwrap_or.ensures at k);
-  stops = λ more v door k. stops_more (GoesDrawing g.N.Core.goes (Draws g.W.Words.gives g.W.Words.faults)) g.L.Link.talk c.args.terms.listens None c.args.terms.script.now (at_rest c.args.node.now c.args.parts.now.random) (world_of c.in_ok-set.set (dialling g.D.Dialer.calls g.D.Dialer.left g.D.Dialer.faults c.args.parts.now.dialer) (g.K.Sink.held c.args.sink.now)) (admitting g.A.Acceptor.left g.A.Acceptor.waits c.args.acceptor.now)
+  stops = λ more v door k. stops_more (GoesDrawing g.N.Core.goes (Draws g.W.Words.gives g.W.Words.faults)) g.L.Link.talk c.args.terms.listens None c.args.terms.script.now (at_rest c.args.node.now c.args.parts.now.random) (world_of c.in_ok-set.set (dialling g.D.Dialer.calls g.D.Dialer.left g.D.Dialer.came g.D.Dialer.faults c.args.parts.now.dialer) (g.K.Sink.held c.args.sink.now)) (admitting g.A.Acceptor.left g.A.Acceptor.came g.A.Acceptor.waits c.args.acceptor.now)
       c.loop-made.invariant.times c.in_ok-turn.turn.time c.loop-made.start c.loop-made.left.now c.in_ok-turn.turn.left.now (at_rest c.loop-made.node c.loop-made.parts.random) (at_rest c.node_turn.new.node c.node_turn.new.parts.random)
-      (world_of c.loop-made.set (dialling g.D.Dialer.calls g.D.Dialer.left g.D.Dialer.faults c.loop-made.parts.dialer) (g.K.Sink.held c.loop-made.sink)) (world_of c.node_turn.new.set (dialling g.D.Dialer.calls g.D.Dialer.left g.D.Dialer.faults c.node_turn.new.parts.dialer) (g.K.Sink.held c.node_turn.new.sink)) (admitting g.A.Acceptor.left g.A.Acceptor.waits c.loop-made.acceptor) (admitting g.A.Acceptor.left g.A.Acceptor.waits c.node_turn.new.acceptor)
+      (world_of c.loop-made.set (dialling g.D.Dialer.calls g.D.Dialer.left g.D.Dialer.came g.D.Dialer.faults c.loop-made.parts.dialer) (g.K.Sink.held c.loop-made.sink)) (world_of c.node_turn.new.set (dialling g.D.Dialer.calls g.D.Dialer.left g.D.Dialer.came g.D.Dialer.faults c.node_turn.new.parts.dialer) (g.K.Sink.held c.node_turn.new.sink)) (admitting g.A.Acceptor.left g.A.Acceptor.came g.A.Acceptor.waits c.loop-made.acceptor) (admitting g.A.Acceptor.left g.A.Acceptor.came g.A.Acceptor.waits c.node_turn.new.acceptor)
       c.loop-made.invariant.stops c.loop-made.invariant.going c.in_ok-turn.ensures.turns
       more v door (rw c.unwrap_or.ensures at k);
   rise = rise_more 0 c.loop-made.invariant.times (g.C.Clock.newest c.loop-made.clock) c.in_ok-turn.turn.time (g.C.Clock.newest c.node_turn.new.clock)
@@ -98,8 +98,8 @@ loop-made-preserved g c = record {
 pub returns-clause-runs : goal.returns-clause-runs
 returns-clause-runs g c = record {
   times = c.loop-made.invariant.times;
-  first = world_of c.in_ok-set.set (dialling g.D.Dialer.calls g.D.Dialer.left g.D.Dialer.faults c.args.parts.now.dialer) (g.K.Sink.held c.args.sink.now);
-  last = (world_of c.loop-made.set (dialling g.D.Dialer.calls g.D.Dialer.left g.D.Dialer.faults c.loop-made.parts.dialer) (g.K.Sink.held c.loop-made.sink));
+  first = world_of c.in_ok-set.set (dialling g.D.Dialer.calls g.D.Dialer.left g.D.Dialer.came g.D.Dialer.faults c.args.parts.now.dialer) (g.K.Sink.held c.args.sink.now);
+  last = (world_of c.loop-made.set (dialling g.D.Dialer.calls g.D.Dialer.left g.D.Dialer.came g.D.Dialer.faults c.loop-made.parts.dialer) (g.K.Sink.held c.loop-made.sink));
   empty = record {
     link = c.in_ok-set.ensures.links;
     arrived = c.in_ok-set.ensures.arrived;
@@ -109,8 +109,8 @@ returns-clause-runs g c = record {
     dialled = refl;
     held = refl;
   };
-  went = turns_all (GoesDrawing g.N.Core.goes (Draws g.W.Words.gives g.W.Words.faults)) g.L.Link.talk c.args.terms.listens None c.args.terms.script.now (at_rest c.args.node.now c.args.parts.now.random) (world_of c.in_ok-set.set (dialling g.D.Dialer.calls g.D.Dialer.left g.D.Dialer.faults c.args.parts.now.dialer) (g.K.Sink.held c.args.sink.now)) (admitting g.A.Acceptor.left g.A.Acceptor.waits c.args.acceptor.now)
-      c.loop-made.invariant.times c.loop-made.start c.loop-made.left.now (at_rest c.loop-made.node c.loop-made.parts.random) (world_of c.loop-made.set (dialling g.D.Dialer.calls g.D.Dialer.left g.D.Dialer.faults c.loop-made.parts.dialer) (g.K.Sink.held c.loop-made.sink)) (admitting g.A.Acceptor.left g.A.Acceptor.waits c.loop-made.acceptor)
+  went = turns_all (GoesDrawing g.N.Core.goes (Draws g.W.Words.gives g.W.Words.faults)) g.L.Link.talk c.args.terms.listens None c.args.terms.script.now (at_rest c.args.node.now c.args.parts.now.random) (world_of c.in_ok-set.set (dialling g.D.Dialer.calls g.D.Dialer.left g.D.Dialer.came g.D.Dialer.faults c.args.parts.now.dialer) (g.K.Sink.held c.args.sink.now)) (admitting g.A.Acceptor.left g.A.Acceptor.came g.A.Acceptor.waits c.args.acceptor.now)
+      c.loop-made.invariant.times c.loop-made.start c.loop-made.left.now (at_rest c.loop-made.node c.loop-made.parts.random) (world_of c.loop-made.set (dialling g.D.Dialer.calls g.D.Dialer.left g.D.Dialer.came g.D.Dialer.faults c.loop-made.parts.dialer) (g.K.Sink.held c.loop-made.sink)) (admitting g.A.Acceptor.left g.A.Acceptor.came g.A.Acceptor.waits c.loop-made.acceptor)
       c.loop-made.invariant.turns;
   dials = refl;
   holds = refl;
@@ -129,8 +129,8 @@ returns-in_err-turn-clause-fails g c =
     at_err _ (inr (
     record {
       times = c.loop-made.invariant.times ++ k.0 ∷ [];
-      first = (world_of c.in_ok-set.set (dialling g.D.Dialer.calls g.D.Dialer.left g.D.Dialer.faults c.args.parts.now.dialer) (g.K.Sink.held c.args.sink.now));
-      last = (world_of c.node_turn.new.set (dialling g.D.Dialer.calls g.D.Dialer.left g.D.Dialer.faults c.node_turn.new.parts.dialer) (g.K.Sink.held c.node_turn.new.sink));
+      first = (world_of c.in_ok-set.set (dialling g.D.Dialer.calls g.D.Dialer.left g.D.Dialer.came g.D.Dialer.faults c.args.parts.now.dialer) (g.K.Sink.held c.args.sink.now));
+      last = (world_of c.node_turn.new.set (dialling g.D.Dialer.calls g.D.Dialer.left g.D.Dialer.came g.D.Dialer.faults c.node_turn.new.parts.dialer) (g.K.Sink.held c.node_turn.new.sink));
       empty = record {
         link = c.in_ok-set.ensures.links;
         arrived = c.in_ok-set.ensures.arrived;
@@ -140,9 +140,9 @@ returns-in_err-turn-clause-fails g c =
         dialled = refl;
         held = refl;
       };
-      went = stops_now (GoesDrawing g.N.Core.goes (Draws g.W.Words.gives g.W.Words.faults)) g.L.Link.talk c.args.terms.listens None c.args.terms.script.now (at_rest c.args.node.now c.args.parts.now.random) (world_of c.in_ok-set.set (dialling g.D.Dialer.calls g.D.Dialer.left g.D.Dialer.faults c.args.parts.now.dialer) (g.K.Sink.held c.args.sink.now)) (admitting g.A.Acceptor.left g.A.Acceptor.waits c.args.acceptor.now)
-          c.loop-made.invariant.times k.0 c.loop-made.start c.loop-made.left.now (at_rest c.loop-made.node c.loop-made.parts.random) (world_of c.loop-made.set (dialling g.D.Dialer.calls g.D.Dialer.left g.D.Dialer.faults c.loop-made.parts.dialer) (g.K.Sink.held c.loop-made.sink)) (world_of c.node_turn.new.set (dialling g.D.Dialer.calls g.D.Dialer.left g.D.Dialer.faults c.node_turn.new.parts.dialer) (g.K.Sink.held c.node_turn.new.sink))
-          (admitting g.A.Acceptor.left g.A.Acceptor.waits c.loop-made.acceptor) (admitting g.A.Acceptor.left g.A.Acceptor.waits c.node_turn.new.acceptor) c.loop-made.invariant.stops c.loop-made.invariant.going k.4;
+      went = stops_now (GoesDrawing g.N.Core.goes (Draws g.W.Words.gives g.W.Words.faults)) g.L.Link.talk c.args.terms.listens None c.args.terms.script.now (at_rest c.args.node.now c.args.parts.now.random) (world_of c.in_ok-set.set (dialling g.D.Dialer.calls g.D.Dialer.left g.D.Dialer.came g.D.Dialer.faults c.args.parts.now.dialer) (g.K.Sink.held c.args.sink.now)) (admitting g.A.Acceptor.left g.A.Acceptor.came g.A.Acceptor.waits c.args.acceptor.now)
+          c.loop-made.invariant.times k.0 c.loop-made.start c.loop-made.left.now (at_rest c.loop-made.node c.loop-made.parts.random) (world_of c.loop-made.set (dialling g.D.Dialer.calls g.D.Dialer.left g.D.Dialer.came g.D.Dialer.faults c.loop-made.parts.dialer) (g.K.Sink.held c.loop-made.sink)) (world_of c.node_turn.new.set (dialling g.D.Dialer.calls g.D.Dialer.left g.D.Dialer.came g.D.Dialer.faults c.node_turn.new.parts.dialer) (g.K.Sink.held c.node_turn.new.sink))
+          (admitting g.A.Acceptor.left g.A.Acceptor.came g.A.Acceptor.waits c.loop-made.acceptor) (admitting g.A.Acceptor.left g.A.Acceptor.came g.A.Acceptor.waits c.node_turn.new.acceptor) c.loop-made.invariant.stops c.loop-made.invariant.going k.4;
       dials = refl;
       holds = refl;
       readings = grows_then (g.C.Clock.readings c.args.clock.now) (g.C.Clock.readings c.loop-made.clock) (g.C.Clock.readings c.node_turn.new.clock) c.loop-made.invariant.times (k.0 ∷ [])

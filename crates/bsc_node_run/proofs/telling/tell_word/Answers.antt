@@ -7,7 +7,7 @@ returns-clause-stops g c = (
   c.draw-word.result,
   c.draw-word.ensures.word,
   stops_drawn g.N.Core.goes g.W.Words.gives g.W.Words.faults g.L.Link.talk c.args.at.time c.draw-word.result c.args.node.now c.args.random.now c.draw-word.new.random
-      (world_of c.args.set.now (dialling g.D.Dialer.calls g.D.Dialer.left g.D.Dialer.faults c.args.dialer.now) (g.K.Sink.held c.args.sink.now))
-      (world_of c.tell.new.set (dialling g.D.Dialer.calls g.D.Dialer.left g.D.Dialer.faults c.tell.new.dialer) (g.K.Sink.held c.tell.new.sink))
+      (world_of c.args.set.now (dialling g.D.Dialer.calls g.D.Dialer.left g.D.Dialer.came g.D.Dialer.faults c.args.dialer.now) (g.K.Sink.held c.args.sink.now))
+      (world_of c.tell.new.set (dialling g.D.Dialer.calls g.D.Dialer.left g.D.Dialer.came g.D.Dialer.faults c.tell.new.dialer) (g.K.Sink.held c.tell.new.sink))
       c.draw-word.ensures.drawn c.in-Err.ensures.stops,
 )
