@@ -1,47 +1,19 @@
--- What a policy denies in a session. Without a policy nothing is denied.
-use Rattle.std.specs.Prelude.{ℕ, List, [], ◌∷◌, ◌++◌, filter, is_none, Option, Some, None, Result, Ok, Err, if◌then◌else◌}
-use Rattle.bsc_octets.specs.declared.identity.Identity.{Identity}
+-- What a policy denies in a session: of a step what it denies at the hub's port, and of frames to a connection. Without a policy
+-- nothing is denied.
+use Rattle.std.specs.Prelude.{ℕ, List, [], ◌∷◌, ◌++◌, filter, is_none, Option, Some, None, Result, Ok, Err}
 use Rattle.bsc_octets.specs.declared.vmac.Vmac.{Vmac}
 use Rattle.bsc_octets.specs.declared.envelope.Envelope.{Envelope}
 use Rattle.bsc_octets.specs.declared.envelope.EnvelopeFault.{EnvelopeFault}
 use Rattle.bsc_octets.specs.Addresses.{zero_vmac}
 use Rattle.bsc_octets.specs.Envelopes.{envelope_of}
-use Rattle.bsc_octets.specs.Forwarding.{destination, is_broadcast}
-use Rattle.bsc_policy.specs.declared.decision.Decision.{Decision}
-use Rattle.bsc_policy.specs.declared.decision.Decision.TheVariants.{Allowed, Denied}
 use Rattle.bsc_policy.specs.declared.policy.Policy.{Policy}
-use Rattle.bsc_policy.specs.Decisions.{decided_of, is_admitted}
 use Rattle.bsc_edge.specs.declared.fault.LinkFault.{LinkFault}
 use Rattle.bsc_edge.specs.declared.incoming.Incoming.{Incoming}
 use Rattle.bsc_edge.specs.declared.incoming.Incoming.TheVariants.{Message}
 use Rattle.bsc_accept.specs.declared.step.Step.{Step}
 use Rattle.bsc_accept.specs.declared.step.Step.TheVariants.{Ask, Up}
 use Rattle.bsc_lines.specs.declared.denial.Denial.{Denial}
-use Rattle.bsc_lines.specs.declared.denial.Denial.TheVariants.{OfConnect, OfPair}
-
--- What a decision on a pair denies.
-abbrev pub denied_by : Decision → Vmac → Vmac → Option Denial
-denied_by (Allowed rule) from to = None
-denied_by (Denied rule) from to = Some (OfPair rule from to)
-
-abbrev pub denied_pair : Policy → Vmac → Option Vmac → Option Denial
-denied_pair p from None = None
-denied_pair p from (Some to) = denied_by (decided_of p.members.items p.rules.items from to) from to
-
--- A device that isn't admitted is denied its connect, by rule 0.
-abbrev pub denied_connect : Option Policy → Identity → Option Denial
-denied_connect None who = None
-denied_connect (Some p) who = if is_admitted p.members.items who then None else Some (OfConnect who.vmac)
-
--- A unicast of the connection that has an address is denied where the pair of this address and its Destination is. A
--- broadcast is forwarded: it is denied, or not, to each that gets it.
-abbrev pub denied_from : Policy → Option Vmac → List ℕ → Option Denial
-denied_from p None m = None
-denied_from p (Some from) m = if is_broadcast m then None else denied_pair p from (Some (destination m))
-
-abbrev pub denied_message : Option Policy → Option Vmac → List ℕ → Option Denial
-denied_message None from m = None
-denied_message (Some p) from m = denied_from p from m
+use Rattle.bsc_port.specs.Guarding.{denied_connect, denied_message, denied_pair}
 
 -- The Originating Virtual Address of a frame. Each frame that was forwarded has one.
 abbrev pub origin_in : Result Envelope EnvelopeFault → Option Vmac

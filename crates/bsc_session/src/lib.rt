@@ -43,7 +43,8 @@ pub use job_parts::JobParts;
 pub use job_terms::JobTerms;
 pub use last::Last;
 pub use laws::{
-    causes_are_exact, notices_are_the_sessions, sessions_end_at_fault, wakes_whom_it_concerns,
+    a_turn_takes_16_frames, causes_are_exact, notices_are_the_sessions, sessions_end_at_fault,
+    wakes_whom_it_concerns,
 };
 pub use limits::SessionLimits;
 pub use serving::{serve_connection, serve_guarded, serve_recorded};

@@ -1,26 +1,19 @@
 -- What the sessions at a hub's sides hear and do leaves of a world.
-use Rattle.std.proofs.Common.{◌≡◌, ◌≢◌, ◌≤◌, ◌⊎◌, inl, inr, ℕ, zero, suc, Bool, true, false, cond, List, [], ◌∷◌, ◌++◌, length, set, slice_get, Option, Some, None, true≢false, refl, ap, sym, ◌∙◌, subst}
+use Rattle.std.proofs.Common.{◌≡◌, ◌≤◌, ◌⊎◌, inl, inr, ℕ, zero, suc, Bool, true, false, cond, List, [], ◌∷◌, ◌++◌, length, set, slice_get, Option, Some, None, true≢false, refl, ap, sym, ◌∙◌, subst}
 use Rattle.std.specs.Option.{option_map}
 use Rattle.bsc_history.specs.declared.ending.End.{End}
-use Rattle.bsc_history.specs.declared.ending.End.TheVariants.{Left, Replaced, Full, Stopped}
 use Rattle.bsc_history.specs.declared.mark.Stamped.{Stamped}
-use Rattle.bsc_history.specs.declared.reply.Refusal.{Refusal}
-use Rattle.bsc_history.specs.declared.reply.Refusal.TheVariants.{Stopped as HubStopped, Duplicate, TableFull}
 use Rattle.bsc_desk.specs.declared.desk.Desk.{Desk}
-use Rattle.bsc_checks.specs.declared.phase.Phase.TheVariants.{AwaitingRequest}
 use Rattle.bsc_accept.specs.declared.accepting.Accepting.{Accepting}
 use Rattle.bsc_accept.specs.declared.start.Start.{Start}
 use Rattle.bsc_accept.specs.declared.event.Event.{Event}
-use Rattle.bsc_accept.specs.declared.event.Event.TheVariants.{Joined, Refused, Ended}
+use Rattle.bsc_accept.specs.declared.event.Event.TheVariants.{Ended}
 use Rattle.bsc_accept.specs.declared.step.Step.{Step}
 use Rattle.bsc_accept.specs.declared.step.Step.TheVariants.{Ask, Put, PutClose, Up, Close, Nothing}
-use Rattle.bsc_accept.specs.Past.{Standing, connected, standing, phase_named}
-use Rattle.bsc_accept.specs.Kept.{moved}
-use Rattle.bsc_accept.specs.Steps.{step, closes as is_closing, ended_step, refused_step}
-use Rattle.bsc_accept.specs.Standing.{AcceptingStands, IsConnected, LeavesAccepting, is_open}
-use Rattle.bsc_accept.proofs.Looking.{standing-more}
-use Rattle.bsc_script.proofs.Outboxes.{open_phase}
-use Rattle.bsc_script.proofs.Settling.{connected_standing}
+use Rattle.bsc_accept.specs.Standing.{AcceptingStands}
+use Rattle.bsc_port.specs.declared.event.PortEvent.{PortEvent}
+use Rattle.bsc_port.specs.declared.output.Output.{Output}
+use Rattle.bsc_port.specs.Actions.{machine_event, output_of}
 use Rattle.bsc_node.specs.declared.link_name.LinkName.{LinkName}
 use Rattle.bsc_network.specs.declared.target.Target.{Target}
 use Rattle.bsc_network.specs.declared.target.Target.TheVariants.{Hub as ToHub, Node as ToNode}
@@ -29,24 +22,25 @@ use Rattle.bsc_network.specs.declared.parcel.Content.{Content}
 use Rattle.bsc_network.specs.declared.parcel.Content.TheVariants.{Message, Closed}
 use Rattle.bsc_world.specs.declared.kept_link.KeptConn.{KeptConn}
 use Rattle.bsc_world.specs.declared.kept_link.KeptLink.{KeptLink}
-use Rattle.bsc_world.specs.declared.kept_link.KeptSide.{KeptSide}
+use Rattle.bsc_world.specs.KeptSides.{KeptSide}
 use Rattle.bsc_world.specs.declared.world.World.{World as KeptWorld}
 use Rattle.bsc_network.specs.Traffic.{and_then}
 use Rattle.bsc_network.specs.Worlds.{World, Hub, HubSide, Link, hub_at, link_at}
 use Rattle.bsc_network.specs.Changes.{Change, by_target, in_order, of_hub, puts_at, puts_now, unchanged, with_found, with_link, with_traffic}
 use Rattle.bsc_network.specs.HubSides.{carries_out, closes, leaves, of_side, start, step_at, tells, told, unless_over}
-use Rattle.bsc_world.specs.Kept.{IsConnKeptIf, IsLinkKept, IsReady, IsSideKept, IsSideKeptIf}
+use Rattle.bsc_port.specs.Standing.{Handles, HasPast, IsReady}
+use Rattle.bsc_world.specs.Kept.{IsConnKeptIf, IsLinkKept, IsSideKept, IsSideKeptIf}
 use Rattle.bsc_world.specs.Standing.{AreReadyBut, WorldKeptAs}
 use Rattle.bsc_world.specs.Becoming.{Became, BecomesBusy, HasSide, Keeps, Stands, ends}
-use Rattle.bsc_world.specs.Sides.{IsReadyBy, IsSideOf, KeepsSides}
-use Rattle.bsc_world.specs.SideCalls.{Finds, HasNoSession, HasSession, MachineSteps, asks}
+use Rattle.bsc_world.specs.Sides.{IsSideOf, KeepsSides}
+use Rattle.bsc_world.specs.Ports.{puts_out}
+use Rattle.bsc_world.specs.SideCalls.{Finds, HasNoSession, HasPort, HasSession, PortGoes, port_then}
 use Rattle.bsc_network.proofs.Places.{get-changed, get-set_other}
 use Rattle.bsc_world.proofs.Spots.{LinkChange, link_changed}
 use Rattle.bsc_world.proofs.Goings.{at_clock, became_as, became_both, became_same, busy_more, goes_both, settles}
 use Rattle.bsc_world.proofs.LinkWays.{link_there, map-changed}
 use Rattle.bsc_world.proofs.OfSides.{no_link_at, of_side_is, of_side_node, of_side_none, side_at, unless_over_gone, unless_over_is}
 use Rattle.bsc_world.proofs.LeaveCalls.{OnLink}
-use Rattle.bsc_accept.proofs.Common.{awaits_not}
 use Rattle.bsc_lemmas.proofs.Lists.{get-set as get-set_here}
 use Rattle.bsc_network.proofs.Common.{unless_nothing as unless_unchanged}
 use Rattle.std.proofs.lemmas.Option.{same_Some as some_same}
@@ -156,22 +150,9 @@ put_close_goes t u v l octets p q = then_closes t u v l (Message octets) (closes
 
 -- ---- ready sides
 
-pub open_by : (s : Step) (m : Accepting) → LeavesAccepting s m → is_closing s ≡ false → asks s ≡ false → is_open m.stage ≡ true
-open_by (Ask who) m h c a = absurd (true≢false a)
-open_by (Put octets) m h c a = h
-open_by (PutClose octets x) m h c a = absurd (true≢false c)
-open_by Up m h c a = h
-open_by (Close x) m h c a = absurd (true≢false c)
-open_by Nothing m h c a = h
-
-pub ready_by : (s : Step) → is_closing s ≡ false → asks s ≡ false → (side : KeptSide) → IsReadyBy s side → IsReady side
-ready_by s c a side r = record { waits = open_by s side.machine r.left c a; asked = r.asked c }
-
-pub kept_ready : (t u : KeptWorld) (l : ℕ) (s : Step) → is_closing s ≡ false → asks s ≡ false → HasSide t l (λ side. IsReadyBy s side) → KeepsSides t u → HasSide u l IsReady
-kept_ready t u l s c a ready keeps kept side got is = (let b = keeps l kept got in ready_by s c a side (ready b.0 side b.1 (sym b.2 ∙ is)))
-
-pub still_ready : (t : KeptWorld) (l : ℕ) (s : Step) → is_closing s ≡ false → asks s ≡ false → HasSide t l (λ side. IsReadyBy s side) → HasSide t l IsReady
-still_ready t l s c a ready kept side got is = ready_by s c a side (ready kept side got is)
+-- of a side that is kept as before holds what held
+pub kept_side : (P : KeptSide → Type 0) (t u : KeptWorld) (l : ℕ) → HasSide t l P → KeepsSides t u → HasSide u l P
+kept_side P t u l held keeps kept side got is = (let b = keeps l kept got in held b.0 side b.1 (sym b.2 ∙ is))
 
 became_settled : (t u : KeptWorld) (F : List LinkName) (l : ℕ) (w v : World) → Became t u F (Some l) w v → HasSide u l IsReady → Became t u F None w v
 became_settled t u F l w v p ready = record { clock = p.clock; spent = p.spent; now = p.now; steps = p.steps; links = p.links; delivered = p.delivered; stands = settles u F l v p.stands ready }
@@ -203,21 +184,22 @@ conn_told l h S d s events (Some c) k = record {
   places = k.places;
 }
 
-side_told : (l : ℕ) (h : Hub) (S : List Stamped) (d : Desk) (link : Link) (e : Event) (s : Step) (old new : KeptLink) → MachineSteps s e old new → IsSideKeptIf l h S d link old.side → IsSideKeptIf l h S d (hears e link) new.side
-side_told l h S d link e s old new p k =
+side_told : (l : ℕ) (h : Hub) (S : List Stamped) (d : Desk) (link : Link) (e : Event) (old new : KeptLink) (p : PortGoes old new) (i : Start) → AcceptingStands p.was.machine i link.side.events → AcceptingStands p.machine i (link.side.events ++ e ∷ [])
+    → IsSideKeptIf l h S d link old.side → IsSideKeptIf l h S d (hears e link) new.side
+side_told l h S d link e old new p i before after k =
     let was : IsSideKept l h S d link p.was = subst (IsSideKeptIf l h S d link) p.there k in
-    let a = p.answers (start h link) link.side.events was.machine in
-    let made : IsSideKept l h S d (hears e link) (record p.was { machine = p.machine }) = record {
+    let same : i ≡ start h link = sym before.start ∙ was.machine.start in
+    let made : IsSideKept l h S d (hears e link) (port_then p) = record {
       lasts = was.lasts;
-      machine = a.1;
+      machine = subst (λ z. AcceptingStands p.machine z (link.side.events ++ e ∷ [])) same after;
       joined = conn_told l h S d link.side (link.side.events ++ e ∷ []) p.was.joined was.joined;
     } in
-    let held : IsSideKeptIf l h S d (hears e link) (Some (record p.was { machine = p.machine })) = made in
+    let held : IsSideKeptIf l h S d (hears e link) (Some (port_then p)) = made in
     subst (λ (y : KeptLink). IsSideKeptIf l h S d (hears e link) y.side) (sym p.becomes) held
 
-told_kept : (link : Link) (e : Event) (s : Step) (old new : KeptLink) → MachineSteps s e old new → IsLinkKept link old → IsLinkKept (hears e link) new
-told_kept link e s old new p k =
-    let made : IsLinkKept (hears e link) (record old { side = Some (record p.was { machine = p.machine }) }) = record {
+told_kept : (link : Link) (e : Event) (old new : KeptLink) → PortGoes old new → IsLinkKept link old → IsLinkKept (hears e link) new
+told_kept link e old new p k =
+    let made : IsLinkKept (hears e link) (record old { side = Some (port_then p) }) = record {
       from = k.from;
       to = k.to;
       lost = k.lost;
@@ -229,21 +211,24 @@ others_ready : (t u : KeptWorld) (l : ℕ) (after : KeptLink) → u.links.items 
 others_ready t u l after links ready m k side other got is =
     ready m k side other (sym (ap (λ xs. slice_get xs m) links ∙ get-set_other t.links.items l m after (λ e. other (ap Some e))) ∙ got) is
 
--- A machine was told an event, and made this step.
-pub record IsTold (t u : KeptWorld) (F : List LinkName) (w : World) (l : ℕ) (s : Step) (e : Event) : Type 0 where
-  pub hub : ℕ
+-- The port of a link's side, whose machine stood for what it was told, was told one event more, by what that was.
+pub record IsTold (t u : KeptWorld) (F : List LinkName) (w : World) (l j : ℕ) (e : Start → List Event → Event) (m : Accepting) : Type 0 where
   pub h : Hub
   pub link : Link
-  pub side : IsSideOf w l hub h link
-  pub is : s ≡ step_at h link e
-  pub became : Became t u F (Some l) w (told l e w)
+  pub side : IsSideOf w l j h link
+  pub machine : AcceptingStands m (start h link) link.side.events
+  pub became : Became t u F (Some l) w (told l (e (start h link) link.side.events) w)
 
-pub is_told : (t u : KeptWorld) (F : List LinkName) (w : World) (l : ℕ) (kept after : KeptLink) (s : Step) (e : Event) → slice_get t.links.items l ≡ Some kept → OnLink t u l after → u.hubs.items ≡ t.hubs.items → MachineSteps s e kept after → WorldKeptAs t F (Some l) w → IsTold t u F w l s e
-is_told t u F w l kept after s e was o hubs p st =
+pub is_told : (t u : KeptWorld) (F : List LinkName) (w : World) (l : ℕ) (kept after : KeptLink) (p : PortGoes kept after) (e : Start → List Event → Event) → slice_get t.links.items l ≡ Some kept → OnLink t u l after → u.hubs.items ≡ t.hubs.items
+    → ((h : Hub) (link : Link) → hub_at w p.hub ≡ Some h → AcceptingStands p.was.machine (start h link) link.side.events → AcceptingStands p.machine (start h link) (link.side.events ++ e (start h link) link.side.events ∷ []))
+    → WorldKeptAs t F (Some l) w → IsTold t u F w l p.hub e p.was.machine
+is_told t u F w l kept after p e was o hubs goes st =
     let x = side_at t F (Some l) w l p.hub kept st was p.to in
     let k : IsSideKept l x.hub x.at.marks x.at.kept.desk x.link p.was = subst (IsSideKeptIf l x.hub x.at.marks x.at.kept.desk x.link) p.there x.side in
-    let a = p.answers (start x.hub x.link) x.link.side.events k.machine in
-    let f = hears e in
+    let i = start x.hub x.link in
+    let it = e i x.link.side.events in
+    let stands = goes x.hub x.link x.hub_there k.machine in
+    let f = hears it in
     let change : LinkChange t u w l f x.link kept after = record {
       here = x.there;
       was = was;
@@ -252,16 +237,15 @@ is_told t u F w l kept after s e was o hubs p st =
       nodes = o.nodes;
       links = o.links;
       to = refl;
-      link_kept = told_kept x.link e s kept after p x.link_kept;
-      side = λ j h S d to q. side_told l h S d x.link e s kept after p q;
+      link_kept = told_kept x.link it kept after p x.link_kept;
+      side = λ j h S d to q. side_told l h S d x.link it kept after p i k.machine stands q;
       owner = λ c q r. (q, r);
     } in
     record {
-      hub = p.hub;
       h = x.hub;
       link = x.link;
       side = record { there = x.there; to = x.to; hub = x.hub_there; lasts = k.lasts };
-      is = a.0;
+      machine = k.machine;
       became = record {
         clock = o.clock;
         spent = o.spent;
@@ -273,29 +257,56 @@ is_told t u F w l kept after s e was o hubs p st =
       };
     }
 
-pub told_side : (P : KeptSide → Type 0) (t : KeptWorld) (l : ℕ) (kept after : KeptLink) (s : Step) (e : Event) → slice_get t.links.items l ≡ Some kept → (p : MachineSteps s e kept after) → P (record p.was { machine = p.machine })
+pub told_side : (P : KeptSide → Type 0) (t : KeptWorld) (l : ℕ) (kept after : KeptLink) (p : PortGoes kept after) → slice_get t.links.items l ≡ Some kept → P (port_then p)
     → (k : KeptLink) (side : KeptSide) → slice_get (set t.links.items l after) l ≡ Some k → k.side ≡ Some side → P side
-told_side P t l kept after s e was p holds k side got is =
-    let new : KeptSide = record p.was { machine = p.machine } in
+told_side P t l kept after p was holds k side got is =
+    let new : KeptSide = port_then p in
     let k_is : k ≡ after = some_same k after (sym got ∙ get-set_here t.links.items l kept after was) in
     let side_is : side ≡ new = some_same side new (sym is ∙ ap (λ (y : KeptLink). y.side) (k_is ∙ p.becomes)) in
     subst P (sym side_is) holds
 
-pub told_stands : (t u : KeptWorld) (l : ℕ) (kept after : KeptLink) (s : Step) (e : Event) → slice_get t.links.items l ≡ Some kept → OnLink t u l after → u.hubs.items ≡ t.hubs.items → MachineSteps s e kept after → Stands (Some l) t → Stands (Some l) u
-told_stands t u l kept after s e was o hubs p (F, w, at, st) = (let i = is_told t u F w l kept after s e was o hubs p st in (F, told l e w, at_clock t u F (Some l) w (told l e w) at i.became, i.became.stands))
+-- a port of a side that is kept stands for something
+pub port_some : (t : KeptWorld) (l : ℕ) (kept : KeptLink) → slice_get t.links.items l ≡ Some kept → Stands (Some l) t → HasPort (λ p. HasPast p) kept
+port_some t l kept was (F, w, at, st) j side to is =
+    let x = side_at t F (Some l) w l j kept st was to in
+    let k : IsSideKept l x.hub x.at.marks x.at.kept.desk x.link side = subst (IsSideKeptIf l x.hub x.at.marks x.at.kept.desk x.link) is x.side in
+    (start x.hub x.link, x.link.side.events, k.machine)
 
--- Its step is carried out.
-pub tells_goes : (t u v : KeptWorld) (l : ℕ) (kept after : KeptLink) (s : Step) (e : Event) → slice_get t.links.items l ≡ Some kept → OnLink t u l after → u.hubs.items ≡ t.hubs.items → MachineSteps s e kept after → BecomesBusy (Some l) None (unless_over l (carries_out l s)) u v
-    → BecomesBusy (Some l) None (unless_over l (tells l e)) t v
-tells_goes t u v l kept after s e was o hubs p q F w at st =
-    let i = is_told t u F w l kept after s e was o hubs p st in
-    let next : IsSideOf (told l e w) l i.hub i.h (hears e i.link) = side_with w l i.hub i.h i.link (hears e) i.side refl refl in
-    became_as t v F None w (unless_over l (carries_out l s) (told l e w)) (unless_over l (tells l e) w)
-    (unless_over_is (told l e w) l i.hub i.h (hears e i.link) (carries_out l s) next
-    ∙ ap (λ (y : Step). carries_out l y (told l e w)) i.is
-    ∙ sym (of_side_is w l i.hub i.h i.link (λ j h x. in_order (told l e ∷ carries_out l (step_at h x e) ∷ [])) i.side.there i.side.to i.side.hub)
-    ∙ sym (unless_over_is w l i.hub i.h i.link (tells l e) i.side))
-    (became_both t u v F (Some l) None w (told l e w) (unless_over l (carries_out l s) (told l e w)) i.became (q F (told l e w) (at_clock t u F (Some l) w (told l e w) at i.became) i.became.stands))
+-- what is known of a port at an event
+handled_so : (w : World) (kept after : KeptLink) (p : PortGoes kept after) (o : Output) (e : PortEvent) → Handles p.was.machine p.machine e o → (h : Hub) (link : Link) → hub_at w p.hub ≡ Some h
+    → AcceptingStands p.was.machine (start h link) link.side.events → AcceptingStands p.machine (start h link) (link.side.events ++ machine_event e ∷ [])
+handled_so w kept after p o e does h link at st = (does (start h link) link.side.events st).1
+
+pub told_stands : (t u : KeptWorld) (l : ℕ) (kept after : KeptLink) (p : PortGoes kept after) (o : Output) (e : PortEvent) → slice_get t.links.items l ≡ Some kept → OnLink t u l after → u.hubs.items ≡ t.hubs.items → Handles p.was.machine p.machine e o → Stands (Some l) t → Stands (Some l) u
+told_stands t u l kept after p o e was on hubs does (F, w, at, st) =
+    let i = is_told t u F w l kept after p (λ s E. machine_event e) was on hubs (handled_so w kept after p o e does) st in
+    let v = told l (machine_event e) w in
+    (F, v, at_clock t u F (Some l) w v at i.became, i.became.stands)
+
+-- what a step does with the link is what the definition does
+pub out_is : (l : ℕ) (s : Step) → puts_out l (output_of s) ≡ carries_out l s
+out_is l (Ask who) = refl
+out_is l (Put octets) = refl
+out_is l (PutClose octets c) = refl
+out_is l Up = refl
+out_is l (Close c) = refl
+out_is l Nothing = refl
+
+-- What the port does is carried out.
+pub tells_goes : (t u v : KeptWorld) (l : ℕ) (kept after : KeptLink) (p : PortGoes kept after) (o : Output) (e : PortEvent) → slice_get t.links.items l ≡ Some kept → OnLink t u l after → u.hubs.items ≡ t.hubs.items → Handles p.was.machine p.machine e o
+    → BecomesBusy (Some l) None (unless_over l (puts_out l o)) u v → BecomesBusy (Some l) None (unless_over l (tells l (machine_event e))) t v
+tells_goes t u v l kept after p o e was on hubs does q F w at st =
+    let it = machine_event e in
+    let i = is_told t u F w l kept after p (λ s E. it) was on hubs (handled_so w kept after p o e does) st in
+    let next : IsSideOf (told l it w) l p.hub i.h (hears it i.link) = side_with w l p.hub i.h i.link (hears it) i.side refl refl in
+    let out : o ≡ output_of (step_at i.h i.link it) = (does (start i.h i.link) i.link.side.events i.machine).0 in
+    became_as t v F None w (unless_over l (puts_out l o) (told l it w)) (unless_over l (tells l it) w)
+    (unless_over_is (told l it w) l p.hub i.h (hears it i.link) (puts_out l o) next
+    ∙ ap (λ (y : Output). puts_out l y (told l it w)) out
+    ∙ ap (λ (f : Change). f (told l it w)) (out_is l (step_at i.h i.link it))
+    ∙ sym (of_side_is w l p.hub i.h i.link (λ j h x. in_order (told l it ∷ carries_out l (step_at h x it) ∷ [])) i.side.there i.side.to i.side.hub)
+    ∙ sym (unless_over_is w l p.hub i.h i.link (tells l it) i.side))
+    (became_both t u v F (Some l) None w (told l it w) (unless_over l (puts_out l o) (told l it w)) i.became (q F (told l it w) (at_clock t u F (Some l) w (told l it w) at i.became) i.became.stands))
 
 -- ---- nobody hears
 
@@ -324,64 +335,7 @@ same_left_goes t u v l change kept after was o hubs same none p F w at s =
     became_as t v F None w (unless_over l (leaves l) w) (unless_over l change w) (unless_none w l (leaves l) n ∙ sym (unless_none w l change n))
     (became_both t u v F (Some l) None w w (unless_over l (leaves l) w) first (p F w (at ∙ sym o.clock) first.stands))
 
--- ---- which steps they are
-
-pub machine_told : (t : KeptWorld) (l : ℕ) (kept after : KeptLink) (s : Step) (e : Event) → slice_get t.links.items l ≡ Some kept → (p : MachineSteps s e kept after) → Stands (Some l) t
-    → (i : Start) × (E : List Event) × AcceptingStands p.was.machine i E × (s ≡ step i E e) × AcceptingStands p.machine i (E ++ e ∷ [])
-machine_told t l kept after s e was p (F, w, at, st) =
-    let x = side_at t F (Some l) w l p.hub kept st was p.to in
-    let k : IsSideKept l x.hub x.at.marks x.at.kept.desk x.link p.was = subst (IsSideKeptIf l x.hub x.at.marks x.at.kept.desk x.link) p.there x.side in
-    let a = p.answers (start x.hub x.link) x.link.side.events k.machine in
-    (start x.hub x.link, x.link.side.events, k.machine, a.0, a.1)
-
-pub joined_ready : (t : KeptWorld) (l : ℕ) (kept after : KeptLink) (s : Step) → slice_get t.links.items l ≡ Some kept → (p : MachineSteps s Joined kept after) → Stands (Some l) t → (asks s ≡ false) × IsReadyBy s (record p.was { machine = p.machine })
-joined_ready t l kept after s was p st =
-    let x = machine_told t l kept after s Joined was p st in
-    let no : asks s ≡ false = ap asks x.3 in (
-      no,
-      record {
-        left = p.left;
-        asked = λ c j has waits. awaits_not (standing x.1) (ap phase_named (sym (standing-more x.1 Joined)) ∙ sym (open_phase p.machine x.0 (x.1 ++ Joined ∷ []) x.4 (open_by s p.machine p.left c no)) ∙ waits);
-      },
-    )
-
-refused_asks : (id : ℕ) (refusal : Refusal) → asks (refused_step id refusal) ≡ false
-refused_asks id (Duplicate holder) = refl
-refused_asks id (TableFull rows) = refl
-refused_asks id HubStopped = refl
-
-pub refused_ready : (t : KeptWorld) (l : ℕ) (kept after : KeptLink) (s : Step) (refusal : Refusal) → slice_get t.links.items l ≡ Some kept → (p : MachineSteps s (Refused refusal) kept after) → Stands (Some l) t → p.was.joined ≡ None → (asks s ≡ false) × IsReadyBy s (record p.was { machine = p.machine })
-refused_ready t l kept after s refusal was p st alone =
-    let x = machine_told t l kept after s (Refused refusal) was p st in (
-      ap asks x.3 ∙ refused_asks _ refusal,
-      record { left = p.left; asked = λ c j has waits. (let bad : None ≡ Some j = sym alone ∙ has in cc) },
-    )
-
-ended_asks : (ending : End) → asks (ended_step ending) ≡ false
-ended_asks Left = refl
-ended_asks Replaced = refl
-ended_asks Full = refl
-ended_asks Stopped = refl
-
-parted : (now : ℕ) (ending : End) → is_closing (ended_step ending) ≡ false → ending ≢ Left → phase_named (moved connected (Ended now ending)) ≡ AwaitingRequest → ⊥
-parted now Left c l e = l refl
-parted now Replaced c l e = cc
-parted now Full c l e = true≢false c
-parted now Stopped c l e = cc
-
-pub ended_ready : (t : KeptWorld) (l : ℕ) (kept after : KeptLink) (s : Step) (now : ℕ) (ending : End) → slice_get t.links.items l ≡ Some kept → (p : MachineSteps s (Ended now ending) kept after) → Stands (Some l) t → IsConnected p.was.machine → ending ≢ Left → (asks s ≡ false) × IsReadyBy s (record p.was { machine = p.machine })
-ended_ready t l kept after s now ending was p st at named =
-    let e = Ended now ending in
-    let x = machine_told t l kept after s e was p st in
-    let no : asks s ≡ false = ap asks x.3 ∙ ended_asks ending in
-    let g : standing x.1 ≡ connected = connected_standing p.was.machine x.0 x.1 x.2 at in (
-      no,
-      record {
-        left = p.left;
-        asked = λ c j has waits. parted now ending (sym (ap is_closing x.3) ∙ c) named
-            (ap (λ (y : Standing). phase_named (moved y e)) (sym g) ∙ ap phase_named (sym (standing-more x.1 e)) ∙ sym (open_phase p.machine x.0 (x.1 ++ e ∷ []) x.4 (open_by s p.machine p.left c no)) ∙ waits);
-      },
-    )
+-- ---- the end of a connection
 
 pub busy_stands : (t : KeptWorld) (l : ℕ) → Stands None t → Stands (Some l) t
 busy_stands t l (F, w, at, s) = (F, w, at, busy_more t F l w s)

@@ -1,9 +1,11 @@
+pub mod KeptSides
 pub mod HubEntries
 pub mod Passing
 pub mod Kept
 pub mod Standing
 pub mod Becoming
 pub mod Sides
+pub mod Ports
 pub mod SideCalls
 pub mod Takes
 pub mod Puts

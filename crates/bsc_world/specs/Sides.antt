@@ -3,25 +3,21 @@ use Rattle.std.specs.Prelude.{◌≡◌, ℕ, true, false, List, slice_get, Opti
 use Rattle.bsc_octets.specs.declared.identity.Identity.{Identity}
 use Rattle.bsc_history.specs.declared.call.Call.TheVariants.{Connect, Forward}
 use Rattle.bsc_history.specs.declared.reply.Reply.TheVariants.{Joined as JoinedReply, Refused as RefusedReply}
-use Rattle.bsc_checks.specs.declared.phase.Phase.TheVariants.{AwaitingRequest}
-use Rattle.bsc_accept.specs.declared.event.Event.TheVariants.{Message as Came}
-use Rattle.bsc_accept.specs.declared.step.Step.{Step}
-use Rattle.bsc_accept.specs.Standing.{LeavesAccepting, phase_of}
-use Rattle.bsc_accept.specs.Steps.{closes}
+use Rattle.bsc_port.specs.declared.action.PortAction.{PortAction}
+use Rattle.bsc_port.specs.Actions.{action, heard}
 use Rattle.bsc_node.specs.declared.link_name.LinkName.{LinkName}
 use Rattle.bsc_network.specs.declared.target.Target.TheVariants.{Hub as ToHub}
 use Rattle.bsc_world.specs.declared.asked.Asked.{Asked}
 use Rattle.bsc_world.specs.declared.asked.Asked.TheVariants.{Worn as AskedWorn, Joined as AskedJoined, Refused as AskedRefused}
 use Rattle.bsc_world.specs.declared.passed.Passed.{Passed}
 use Rattle.bsc_world.specs.declared.passed.Passed.TheVariants.{Alone, Worn as PassedWorn, Made}
-use Rattle.bsc_world.specs.declared.kept_link.KeptConn.{KeptConn}
 use Rattle.bsc_world.specs.declared.kept_link.KeptLink.{KeptLink}
-use Rattle.bsc_world.specs.declared.kept_link.KeptSide.{KeptSide}
+use Rattle.bsc_world.specs.KeptSides.{KeptSide}
 use Rattle.bsc_world.specs.declared.world.World.{World as KeptWorld}
 use Rattle.bsc_network.specs.Worlds.{World, Hub, Link, hub_at, link_at}
 use Rattle.bsc_network.specs.Changes.{with_side}
 use Rattle.bsc_network.specs.HubCalls.{called, is_worn, reply_in}
-use Rattle.bsc_network.specs.HubSides.{told, step_at, verdict_on}
+use Rattle.bsc_network.specs.HubSides.{start, told}
 use Rattle.bsc_world.specs.Becoming.{Became}
 
 -- Link l leads to hub j, and its session lasts.
@@ -71,21 +67,17 @@ WasPassed Made old new x link m =
     (c : ℕ) × (link.side.conn ≡ Some c) × (is_worn x.hub ≡ false)
     × Became old new x.failed None x.world (called x.number x.link x.place (Forward c m) x.world)
 
--- ---- machines
+-- ---- messages
 
--- How a step leaves a side: its machine as the step does, and a side that has joined doesn't wait for a Connect-Request, but
--- where the session is to be over.
-pub record IsReadyBy (step : Step) (side : KeptSide) : Type 0 where
-  pub left : LeavesAccepting step side.machine
-  pub asked : closes step ≡ false → (joined : KeptConn) → side.joined ≡ Some joined → phase_of side.machine ≡ AwaitingRequest → ⊥
-
--- What a message comes to at a side: nothing where there is none, or the step of its machine, which was told it.
-abbrev pub Heard : Option Step → ℕ → List ℕ → KeptWorld → KeptWorld → List LinkName → World → Type 0
-Heard None l m old new failed w = ((j : ℕ) (h : Hub) (link : Link) → IsSideOf w l j h link → ⊥) × (new ≡ old)
-Heard (Some step) l m old new failed w =
+-- What a message comes to at a side: nothing where there is none, or the action of its port, whose machine was told it.
+abbrev pub Heard : Option PortAction → ℕ → List ℕ → KeptWorld → KeptWorld → List LinkName → World → Type 0
+Heard None l m old new failed w = ((j : ℕ) (h : Hub) (link : Link) → IsSideOf w l j h link → ⊥) × Became old new failed None w w
+Heard (Some a) l m old new failed w =
     (j : ℕ) × (h : Hub) × (link : Link) × IsSideOf w l j h link
-    × (step ≡ step_at h link (Came w.now (verdict_on h link m)))
-    × Became old new failed (Some l) w (told l (Came w.now (verdict_on h link m)) w)
+    × (a ≡ action None None (start h link) link.side.events w.now m)
+    × Became old new failed (Some l) w (told l (heard (start h link) link.side.events w.now m) w)
+
+-- ---- what stays
 
 -- The sides of all links keep their machines and what they have once they joined: those that are there after were there before.
 abbrev pub KeepsSides : KeptWorld → KeptWorld → Type 0

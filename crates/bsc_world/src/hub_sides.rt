@@ -1,27 +1,30 @@
 //! What the hub's side of a link does.
-ghost use Rattle.std.specs.Prelude.{◌≡◌, ◌≢◌, ℕ, List, Some, None, false, IfOk, IfSome, OnOk, IsFalse, IsTrue};
+ghost use Rattle.std.specs.Prelude.{◌≡◌, ◌≢◌, List, Some, None, IfOk, IfSome, OnOk, IsFalse, IsTrue};
 ghost use Rattle.bsc_octets.specs.Addresses.{same_vmac, zero_vmac, broadcast};
 ghost use Rattle.bsc_octets.specs.Forwarding.{has_route};
-ghost use Rattle.bsc_accept.specs.Standing.{AwaitsAnswer, IsConnected, IsOpen};
+ghost use Rattle.bsc_accept.specs.declared.event.Event.{Event};
+ghost use Rattle.bsc_accept.specs.Standing.{AwaitsAnswer, IsConnected};
+ghost use Rattle.bsc_port.specs.Actions.{machine_event};
+ghost use Rattle.bsc_port.specs.Standing.{Fits, HasPast, IsReady, LeavesBy, LeavesPort, MayHandle};
 ghost use Rattle.bsc_node.specs.declared.link_name.LinkName.{LinkName as NameOf};
 ghost use Rattle.bsc_network.specs.declared.way.Way.TheVariants.{Down};
 ghost use Rattle.bsc_network.specs.Worlds.{World as WorldOf};
 ghost use Rattle.bsc_network.specs.Changes.{puts_now};
-ghost use Rattle.bsc_network.specs.HubSides.{acts_on, carries_out, closes, connects, forwards, receives, tells, unless_over};
+ghost use Rattle.bsc_network.specs.HubSides.{closes, connects, forwards, receives, tells, unless_over};
 ghost use Rattle.bsc_world.specs.Standing.{WorldKeptAs};
 ghost use Rattle.bsc_world.specs.Becoming.{Became, Becomes, BecomesBusy, HasSide, Keeps, Stands};
-ghost use Rattle.bsc_world.specs.Sides.{Heard, IsReadyBy, KeepsSides};
-ghost use Rattle.bsc_world.specs.SideCalls.{asks, Finds, FindsPort, HasMachine, MachineHears, IsForMessage, IsPort, IsReadyFor};
+ghost use Rattle.bsc_world.specs.Sides.{Heard, KeepsSides};
+ghost use Rattle.bsc_world.specs.Ports.{acts, puts_out};
+ghost use Rattle.bsc_world.specs.SideCalls.{Finds, HasPort, PortHandles, PortHears};
 
 use crate::asked::Asked;
 use crate::kept_link::KeptLink;
 use crate::passed::Passed;
 use crate::world::World;
-use bsc_accept::{Event, Step};
-use bsc_checks::{Phase, Place, Verdict, judge};
-use bsc_history::{End, Refusal};
+use bsc_history::End;
 use bsc_network::{Content, Target, Way};
 use bsc_octets::{Identity, NoMemory, Octets};
+use bsc_port::{Output, PortAction, PortEvent};
 use std::alloc::Global;
 
 /// These octets in memory of their own.
@@ -32,60 +35,39 @@ fn owned(alloc: Global, octets: &[u8]) -> Result<Octets, NoMemory>
 }
 
 impl KeptLink {
-    /// The machine of the hub's side, where there is one, hears that who asked has joined.
-    fn hear_joined(&mut self) -> Option<Step>
-        requires { HasMachine (λ m. AwaitsAnswer m) self.old }
-        ensures { MachineHears result Event.Joined self.old self.new }
+    /// The port of the hub's side, where there is one, is told something.
+    fn handle(&mut self, event: PortEvent) -> Option<Output>
+        requires may { HasPort (λ p. MayHandle event p) self.old }
+        requires some { HasPort (λ p. HasPast p) self.old }
+        ensures { PortHandles result event self.old self.new }
     {
         let Target::Hub(_) = self.to else {
             return None;
         };
         match &mut self.side {
-            Some(side) => Some(side.machine.joined()),
+            Some(side) => Some(side.handle(event)),
             None => None,
         }
     }
 
-    /// It hears that who asked was refused.
-    fn hear_refused(&mut self, refusal: &Refusal) -> Option<Step>
-        requires { HasMachine (λ m. AwaitsAnswer m) self.old }
-        ensures { MachineHears result (Event.Refused refusal.now) self.old self.new }
+    /// A message comes to it, at a hub that takes no longer one than this.
+    fn receive(
+        &mut self,
+        alloc: Global,
+        now: u64,
+        max: u16,
+        m: &[u8],
+    ) -> Result<Option<PortAction>, NoMemory>
+        requires ready { HasPort (λ p. IsReady p) self.old }
+        requires some { HasPort (λ p. HasPast p) self.old }
+        ensures { IfOk result (λ o. PortHears o now max m.now self.old self.new) }
     {
         let Target::Hub(_) = self.to else {
-            return None;
+            return Ok(None);
         };
         match &mut self.side {
-            Some(side) => Some(side.machine.refused(refusal)),
-            None => None,
-        }
-    }
-
-    /// It hears how its connection has ended.
-    fn hear_ended(&mut self, now: u64, ending: End) -> Option<Step>
-        requires connected { HasMachine (λ m. IsConnected m) self.old }
-        requires ending { ending ≢ End.Left }
-        ensures { MachineHears result (Event.Ended now ending) self.old self.new }
-    {
-        let Target::Hub(_) = self.to else {
-            return None;
-        };
-        match &mut self.side {
-            Some(side) => Some(side.machine.ended(now, ending)),
-            None => None,
-        }
-    }
-
-    /// It hears a message, with its verdict.
-    fn hear_message(&mut self, now: u64, verdict: &Verdict) -> Option<Step>
-        requires { HasMachine (λ m. IsOpen m) self.old }
-        ensures { MachineHears result (Event.Message now verdict.now) self.old self.new }
-    {
-        let Target::Hub(_) = self.to else {
-            return None;
-        };
-        match &mut self.side {
-            Some(side) => Some(side.machine.message(now, verdict)),
-            None => None,
+            Some(side) => Ok(Some(side.receive(alloc, now, max, None, None, m)?)),
+            None => Ok(None),
         }
     }
 }
@@ -131,33 +113,32 @@ impl World {
         Ok(())
     }
 
-    /// Carries out a step that needs no call: octets are put, and the link is closed.
-    fn carry_out(&mut self, alloc: Global, link: u32, step: Step) -> Result<(), NoMemory>
+    /// Carries out what a port does with the link.
+    fn carry_out(&mut self, alloc: Global, link: u32, output: Output) -> Result<(), NoMemory>
         requires some { Stands (Some link) self.old }
-        requires left { HasSide self.old link (λ side. IsReadyBy step side) }
-        requires no_ask { asks step ≡ false }
-        ensures { OnOk result (BecomesBusy (Some link) None (unless_over link (carries_out link step)) self.old self.new) }
+        requires left { HasSide self.old link (λ side. LeavesPort output side) }
+        ensures { OnOk result (BecomesBusy (Some link) None (unless_over link (puts_out link output)) self.old self.new) }
     {
-        match step {
-            Step::Put(octets) => {
+        match output {
+            Output::Send(octets) => {
                 let message = owned(alloc, octets.as_slice())?;
                 self.put_down(link, Content::Message(message))
             }
-            Step::PutClose(octets, _) => {
+            Output::SendClose(octets, _) => {
                 let message = owned(alloc, octets.as_slice())?;
                 self.put_down(link, Content::Message(message))?;
                 self.close(link)
             }
-            Step::Close(_) => self.close(link),
-            Step::Ask(_) | Step::Up | Step::Nothing => Ok(()),
+            Output::Close(_) => self.close(link),
+            Output::Nothing => Ok(()),
         }
     }
 
-    /// The machine is told that who asked has joined, and its step is carried out.
-    fn tell_joined(&mut self, alloc: Global, link: u32) -> Result<(), NoMemory>
+    /// The port is told something, and what it does is carried out.
+    fn tell(&mut self, alloc: Global, link: u32, event: PortEvent) -> Result<(), NoMemory>
         requires some { Stands (Some link) self.old }
-        requires asked { HasSide self.old link (λ side. AwaitsAnswer side.machine) }
-        ensures { OnOk result (BecomesBusy (Some link) None (unless_over link (tells link Event.Joined)) self.old self.new) }
+        requires may { HasSide self.old link (λ side. MayHandle event side) }
+        ensures { OnOk result (BecomesBusy (Some link) None (unless_over link (tells link (machine_event event))) self.old self.new) }
     {
         let place = link as usize;
         if self.links.len() <= place {
@@ -165,8 +146,8 @@ impl World {
             return Ok(());
         }
         let kept = &mut self.links[place];
-        match kept.hear_joined() {
-            Some(step) => self.carry_out(alloc, link, step),
+        match kept.handle(event) {
+            Some(output) => self.carry_out(alloc, link, output),
             None => {
                 self.call_leave(link);
                 Ok(())
@@ -174,29 +155,7 @@ impl World {
         }
     }
 
-    /// The machine is told that who asked was refused, and its step is carried out.
-    fn tell_refused(&mut self, alloc: Global, link: u32, refusal: &Refusal) -> Result<(), NoMemory>
-        requires some { Stands (Some link) self.old }
-        requires asked { HasSide self.old link (λ side. AwaitsAnswer side.machine) }
-        requires alone { HasSide self.old link (λ side. side.joined ≡ None) }
-        ensures { OnOk result (BecomesBusy (Some link) None (unless_over link (tells link (Event.Refused refusal.now))) self.old self.new) }
-    {
-        let place = link as usize;
-        if self.links.len() <= place {
-            self.call_leave(link);
-            return Ok(());
-        }
-        let kept = &mut self.links[place];
-        match kept.hear_refused(refusal) {
-            Some(step) => self.carry_out(alloc, link, step),
-            None => {
-                self.call_leave(link);
-                Ok(())
-            }
-        }
-    }
-
-    /// The machine is told how its connection has ended, and its step is carried out.
+    /// The port is told how its connection has ended, and what it does is carried out.
     pub(crate) fn tell_ended(
         &mut self,
         alloc: Global,
@@ -209,16 +168,8 @@ impl World {
         ensures { OnOk result ((F : List NameOf) (w : WorldOf) → w.now ≡ self.old.clock → WorldKeptAs self.old F None w
             → Became self.old self.new F None w (unless_over link (tells link (Event.Ended w.now ending)) w)) }
     {
-        let place = link as usize;
-        if self.links.len() <= place {
-            return Ok(());
-        }
         let now = self.clock;
-        let kept = &mut self.links[place];
-        match kept.hear_ended(now, ending) {
-            Some(step) => self.carry_out(alloc, link, step),
-            None => Ok(()),
-        }
+        self.tell(alloc, link, PortEvent::Ended { now, ending })
     }
 
     /// Who asks is connected, where the session lasts: the machine is told what came of it, and where the hub is worn the
@@ -240,8 +191,8 @@ impl World {
         if self.has_side(link) {
             match self.call_connect(alloc, link, place, who)? {
                 Asked::Worn => self.close(link),
-                Asked::Joined => self.tell_joined(alloc, link),
-                Asked::Refused(refusal) => self.tell_refused(alloc, link, &refusal),
+                Asked::Joined => self.tell(alloc, link, PortEvent::Joined),
+                Asked::Refused(refusal) => self.tell(alloc, link, PortEvent::Refused(refusal)),
             }
         } else {
             self.call_leave(link);
@@ -266,97 +217,53 @@ impl World {
         }
     }
 
-    /// What is judged at the hub's side of a link, where its session lasts: the phase of its machine, and the greatest length
-    /// of a message of its hub.
-    fn port_of(&self, link: u32) -> Option<(Phase, u16)>
-        ensures { FindsPort result self.now link }
-    {
-        let place = link as usize;
-        if self.links.len() <= place {
-            return None;
-        }
-        let kept = &self.links[place];
-        let Target::Hub(hub) = kept.to else {
-            return None;
-        };
-        let at = hub as usize;
-        if self.hubs.len() <= at {
-            return None;
-        }
-        match &kept.side {
-            Some(side) => {
-                let phase = side.machine.phase();
-                let hub_kept = &self.hubs[at];
-                Some((phase, hub_kept.about.hub.max_bvlc))
-            }
-            None => None,
-        }
-    }
-
-    /// The machine hears a message that is judged so: its step.
-    fn hear_at(
+    /// A message comes to the port, where the session lasts: what it does.
+    fn hear_from(
         &mut self,
         alloc: Global,
         link: u32,
         m: &[u8],
-        phase: Phase,
-        max: u16,
-    ) -> Result<Option<Step>, NoMemory>
+    ) -> Result<Option<PortAction>, NoMemory>
         requires some { Stands None self.old }
-        requires port { (F : List NameOf) (w : WorldOf) → WorldKeptAs self.old F None w → IsPort w link phase max }
-        ensures fits { IfOk result (λ o. IfSome o (λ step. IsForMessage m.now step)) }
-        ensures left { IfOk result (λ o. IfSome o (λ step. HasSide self.new link (λ side. IsReadyFor step side))) }
+        ensures fits { IfOk result (λ o. IfSome o (λ action. Fits None m.now action)) }
+        ensures left { IfOk result (λ o. IfSome o (λ action. HasSide self.new link (λ side. LeavesBy action side))) }
         ensures told { IfOk result (λ o. (F : List NameOf) (w : WorldOf) → w.now ≡ self.old.clock
             → WorldKeptAs self.old F None w
             → Heard o link m.now self.old self.new F w) }
     {
-        let verdict = judge(alloc, m, &Place::HubPort { phase }, max)?;
-        let place = link as usize;
-        if self.links.len() <= place {
+        let Some(hub) = self.hub_of(link) else {
             return Ok(None);
-        }
+        };
+        let max = self.hubs[hub as usize].about.hub.max_bvlc;
         let now = self.clock;
-        let kept = &mut self.links[place];
-        Ok(kept.hear_message(now, &verdict))
+        let kept = &mut self.links[link as usize];
+        kept.receive(alloc, now, max, m)
     }
 
-    /// The machine hears a message, where the session lasts: its step.
-    fn hear_from(&mut self, alloc: Global, link: u32, m: &[u8]) -> Result<Option<Step>, NoMemory>
-        requires some { Stands None self.old }
-        ensures fits { IfOk result (λ o. IfSome o (λ step. IsForMessage m.now step)) }
-        ensures left { IfOk result (λ o. IfSome o (λ step. HasSide self.new link (λ side. IsReadyFor step side))) }
-        ensures told { IfOk result (λ o. (F : List NameOf) (w : WorldOf) → w.now ≡ self.old.clock
-            → WorldKeptAs self.old F None w
-            → Heard o link m.now self.old self.new F w) }
-    {
-        match self.port_of(link) {
-            Some((phase, max)) => self.hear_at(alloc, link, m, phase, max),
-            None => Ok(None),
-        }
-    }
-
-    /// Carries out the step that a message led to.
+    /// Carries out what the port does at a message.
     fn act(
         &mut self,
         alloc: Global,
         link: u32,
         place: u64,
         m: &[u8],
-        step: Step,
+        action: PortAction,
     ) -> Result<(), NoMemory>
         requires some { Stands (Some link) self.old }
-        requires fits { IsForMessage m.now step }
-        requires left { HasSide self.old link (λ side. IsReadyFor step side) }
-        ensures { OnOk result (BecomesBusy (Some link) None (unless_over link (acts_on link place m.now step)) self.old self.new) }
+        requires fits { Fits None m.now action }
+        requires left { HasSide self.old link (λ side. LeavesBy action side) }
+        ensures { OnOk result (BecomesBusy (Some link) None (unless_over link (acts link place m.now action)) self.old self.new) }
     {
-        match step {
-            Step::Ask(who) => self.connect(alloc, link, place, who),
-            Step::Up => self.forward(alloc, link, place, m),
-            step => self.carry_out(alloc, link, step),
+        match action {
+            PortAction::Connect(who) => self.connect(alloc, link, place, who),
+            PortAction::Forward => self.forward(alloc, link, place, m),
+            PortAction::Does(output) => self.carry_out(alloc, link, output),
+            PortAction::Reject(_) => self.close(link),
+            PortAction::Discard(_) | PortAction::Deny(_) => Ok(()),
         }
     }
 
-    /// A message comes, with its place: it is judged, and the machine is told.
+    /// A message comes, with its place: the port is told, and what it does is carried out.
     pub(crate) fn receive(
         &mut self,
         alloc: Global,
@@ -368,7 +275,7 @@ impl World {
         ensures { OnOk result (Becomes (unless_over link (receives link place m.now)) self.old self.new) }
     {
         match self.hear_from(alloc, link, m)? {
-            Some(step) => self.act(alloc, link, place, m, step),
+            Some(action) => self.act(alloc, link, place, m, action),
             None => Ok(()),
         }
     }

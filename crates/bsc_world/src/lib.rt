@@ -16,6 +16,7 @@ mod hub_sides;
 mod kept_hub;
 mod kept_link;
 mod kept_node;
+mod laws;
 mod making;
 mod node_events;
 mod node_sides;
@@ -30,6 +31,7 @@ mod world;
 mod world_deliveries;
 
 pub use dialled_list::DialledList;
+pub use laws::hub_sides_follow_ports;
 pub use step_done::StepDone;
 pub use world::World;
 pub use world_deliveries::WorldDeliveries;

@@ -2,7 +2,7 @@ use Rattle.bsc_checks.specs.declared.place.Place.TheVariants.{HubPort}
 use Rattle.bsc_checks.specs.declared.verdict.Verdict.TheVariants.{Pass, Carry}
 use Rattle.bsc_checks.specs.Verdicts.{Judged}
 use Rattle.bsc_checks.proofs.Verdicts.{carried_connected}
-use Rattle.bsc_session.proofs.Verdicts.{carried_route, asks_not_zero, asks_not_broadcast}
+use Rattle.bsc_port.proofs.Verdicts.{carried_route, asks_not_zero, asks_not_broadcast}
 use Rattle.bsc_session.proofs.judging.verdict.Goals as goal
 
 pub returns-clause-found : goal.returns-clause-found
