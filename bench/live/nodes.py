@@ -125,17 +125,22 @@ class Program:
 
 
 class Hub:
-    """A hub at a port, which can be killed and started again."""
+    """A hub at a port, which can be killed and started again. With journals, each start has a prefix of its own."""
 
-    def __init__(self, folder, name, vmac, uuid):
-        self.port = free_port()
+    def __init__(self, folder, name, vmac, uuid, journals=False):
+        self.name, self.port = name, free_port()
+        self.prefixes, self.journals = [], folder / name if journals else None
         self.settings = folder / f"{name}.toml"
         self.settings.write_text(HUB.format(vmac=vmac, uuid=uuid, port=self.port))
         self.program, self.starts = None, 0
 
     def start(self):
-        self.program = program = HubProgram("hub", self.settings)
         self.starts += 1
+        more = []
+        if self.journals:
+            self.prefixes.append(self.journals.with_name(f"{self.journals.name}-{self.starts}"))
+            more = ["--journal", self.prefixes[-1]]
+        self.program = program = HubProgram("hub", self.settings, *more)
         serves = f" serves ws://127.0.0.1:{self.port}/ as hub.bsc.bacnet.org"
         # The first start may prove and build the program.
         while not any(line.endswith(serves) for line in program.said):
@@ -197,12 +202,13 @@ class Node(Program):
         self.came = {(of, to): Came() for of in names if of != self.vmac for to in (self.vmac, EVERYONE)}
         self.numbers = {}
         self.hub_lines, self.others, self.no_path, self.fault = [], [], {}, None
-        self.first_line = None
+        self.lines, self.first_line = [], None
         settings, script = folder / f"node{place}.toml", folder / f"node{place}.script"
         direct = f'direct_port = {port}\ndirect_uris = "ws://127.0.0.1:{port}/"\n' if port else ""
-        uuid = f"{place + 1:08x}-1111-4222-8333-444444444444"
-        settings.write_text(NODE.format(vmac=self.vmac, uuid=uuid, primary=hubs[0].port, failover=hubs[1].port) + direct)
-        script.write_text(self.script(seconds, every, wishes))
+        self.uuid = f"{place + 1:08x}-1111-4222-8333-444444444444"
+        settings.write_text(NODE.format(vmac=self.vmac, uuid=self.uuid, primary=hubs[0].port, failover=hubs[1].port) + direct)
+        self.wishes = self.script(seconds, every, wishes)
+        script.write_text(self.wishes)
         self.words = ["node", settings, script]
 
     def script(self, seconds, every, wishes):
@@ -234,6 +240,7 @@ class Node(Program):
 
     def take(self, line):
         self.first_line = self.first_line or time.monotonic()
+        self.lines.append(line)
         kind, _, rest = line.partition(" ")
         if kind == "hub":
             self.hub_lines.append(rest)
@@ -264,12 +271,12 @@ class Node(Program):
 class Network:
     """A primary and a failover hub and three nodes, of which the first opens a direct connection to the second."""
 
-    def __init__(self, folder, seconds, every):
+    def __init__(self, folder, seconds, every, journals=False):
         folder = Path(folder)
         self.seconds = seconds
         self.watch = Watch()
-        self.hubs = [Hub(folder, "primary", "0200000000FF", "00112233-4455-6677-8899-aabbccddeeff"),
-                     Hub(folder, "failover", "0200000000FE", "00112233-4455-6677-8899-aabbccddee00")]
+        self.hubs = [Hub(folder, "primary", "0200000000FF", "00112233-4455-6677-8899-aabbccddeeff", journals),
+                     Hub(folder, "failover", "0200000000FE", "00112233-4455-6677-8899-aabbccddee00", journals)]
         names = [f"02000000000{letter}" for letter in "ABC"]
         self.port = free_port()
         first, second = names[:2]

@@ -16,7 +16,6 @@ use Rattle.bsc_node.specs.declared.node_event.NodeEvent.{NodeEvent}
 use Rattle.bsc_node.specs.declared.node_event.NodeEvent.TheVariants.{Send}
 use Rattle.bsc_node.specs.Laws.{with_event, with_heard, delivery}
 use Rattle.bsc_node.specs.Links.{place as place_at}
-use Rattle.bsc_node_identity.proofs.Carried.{passed-said}
 use Rattle.bsc_network.specs.declared.world_step.WorldStep.{WorldStep}
 use Rattle.bsc_network.specs.declared.world_step.WorldStep.TheVariants.{Node as OfNode}
 use Rattle.bsc_network.specs.declared.timed_step.TimedStep.{TimedStep}
@@ -30,7 +29,8 @@ use Rattle.bsc_network.specs.Outboxes.{Frame}
 use Rattle.bsc_network.proofs.Places.{found-in}
 use Rattle.bsc_network_laws.specs.Deliveries.{Sends, IsWhole, HasAddress}
 use Rattle.bsc_network_laws.specs.Ends.{receiver, putter, messages}
-use Rattle.bsc_network_laws.specs.Carrying.{Sendings, is_npdu}
+use Rattle.bsc_node_identity.specs.Npdus.{is_npdu}
+use Rattle.bsc_network_laws.specs.Carrying.{Sendings}
 use Rattle.bsc_network_laws.specs.Naming.{Cast}
 use Rattle.bsc_network_laws.specs.Connecting.{IsOfDialler, JoinsDiallers}
 use Rattle.bsc_network_laws.specs.Passing.{IsPassedOn, IsPassedBy, PassesOn}
@@ -47,7 +47,8 @@ use Rattle.bsc_network_laws.proofs.Numbering.{joined_longer}
 use Rattle.bsc_network_laws.proofs.Passing.{KnowsHistories, all_unfiltered, found_in, passes}
 use Rattle.bsc_network_laws.proofs.ComingDown.{comes_down}
 use Rattle.bsc_network_laws.proofs.Histories.{keeps_both, keeps_as, whole_as, knows_histories}
-use Rattle.bsc_network_laws.proofs.FromHubs.{IsDeliveredSo, came_by_hub, passed_so}
+use Rattle.bsc_node_identity.proofs.PassedOn.{IsDeliveredSo, passed_so}
+use Rattle.bsc_network_laws.proofs.FromHubs.{came_by_hub}
 use Rattle.bsc_network_laws.proofs.Lasting.{Lasts}
 use Rattle.bsc_network_laws.proofs.Lasting as Lasting
 use Rattle.bsc_network_laws.proofs.Brought.{at_once}
@@ -55,7 +56,8 @@ use Rattle.bsc_network_laws.proofs.MadeWell.{MadeWell}
 use Rattle.bsc_network_laws.proofs.OtherEnds.{KnowsEnds, knows_ends}
 use Rattle.bsc_network_laws.proofs.DirectLinks.{AllDirect}
 use Rattle.bsc_network_laws.proofs.Directly.{direct_stays}
-use Rattle.bsc_network_laws.proofs.CameDirectly.{npdu-said}
+use Rattle.bsc_node_identity.proofs.Npdus.{passed-npdu}
+use Rattle.bsc_network_laws.proofs.Reached.{UpLaw}
 use Rattle.bsc_network_laws.proofs.Sources.{AllFrom, HubsPart, KnowsSources, from-same, from-hears}
 use Rattle.bsc_lemmas.proofs.Lists.{all-at}
 use Rattle.bsc_network.proofs.Common.{same_node}
@@ -117,7 +119,7 @@ hubs_part cast fit S whole T place w k n by e known name o c j msg npdu v comes 
     h = hub-found w.hubs j (known.there.within a.link j c.link c.found leads)
 
     npdu_so : is_npdu o ≡ true
-    npdu_so = npdu-said o msg npdu (passed-said o (place_at n.made (with_event n.log (at_once w.now e)) name) n.made.own.max_bvlc msg passed) body
+    npdu_so = passed-npdu o (place_at n.made (with_event n.log (at_once w.now e)) name) n.made.own.max_bvlc msg npdu passed body
 
     p : IsPassedBy S w h.0.posted a.link (record { octets = o; sent_at = a.sent_at })
     p =
@@ -184,8 +186,9 @@ knows_sources cast fit made S T place D sends =
 -- ---- the moves of a step
 
 -- Each delivery stays from the Send at its place, and each new one is.
-sources_stay : (cast : Cast) → IsFit cast → (S : Sendings) → AreWhole S → (T place : ℕ) (D : WorldStep) → EachWhole D (KeepsGiven (KnowsSources S cast T place (KnowsHubs cast S T place)) (AllFrom S))
-sources_stay cast fit S whole T place D = record {
+sources_stay : UpLaw → (cast : Cast) → IsFit cast → (S : Sendings) → AreWhole S → (T place : ℕ) (D : WorldStep)
+    → EachWhole D (KeepsGiven (KnowsSources S cast T place (KnowsHubs cast S T place)) (AllFrom S))
+sources_stay law cast fit S whole T place D = record {
   over = λ w l j h k side none m. from-same S w _ (G.each.over w l j h k side none) refl;
   tells = λ w l j h k e other side m. from-same S w _ (G.each.tells w l j h k e other side) refl;
   empty = λ w l m. from-same S w _ (G.each.empty w l) refl;
@@ -197,7 +200,7 @@ sources_stay cast fit S whole T place D = record {
   joins = λ w l j p h k o who c replaced side came said is m. from-same S w _ (G.each.joins w l j p h k o who c replaced side came said is) refl;
   forwards = λ w l j p h k o c side conn came said m. from-same S w _ (G.each.forwards w l j p h k o c side conn came said) refl;
   takes = λ w l j h k c f side conn is m. from-same S w _ (G.each.takes w l j h k c f side conn is) refl;
-  hears = λ w k n by e here come fits_now m. from-hears S cast T place D (KnowsHubs cast S T place) w k n by e (hubs_part cast fit S whole T place w k n by e m.2) here come fits_now m;
+  hears = λ w k n by e here come fits_now m. from-hears law S cast T place D (KnowsHubs cast S T place) w k n by e (hubs_part cast fit S whole T place w k n by e m.2) here come fits_now m;
   forgets = λ w later m. from-same S w _ (G.each.forgets w later) refl;
   arrives = λ w l way k x here is m. from-same S w _ (G.each.arrives w l way k x here is) refl;
   loses = λ w l m. from-same S w _ (G.each.loses w l) refl;
@@ -207,8 +210,9 @@ sources_stay cast fit S whole T place D = record {
     G = as_whole D Lasts (Lasting.lets D)
 
 -- Where each Send is to a whole address, each delivery is from the Send at its place after a step, where each was before it.
-pub sources-done : (cast : Cast) → IsFit cast → MadeWell cast → (S : Sendings) → AreWhole S → (t : TimedStep) (place : ℕ) → IsCounted S place t.step → (w : World)
+pub sources-done : UpLaw → (cast : Cast) → IsFit cast → MadeWell cast → (S : Sendings) → AreWhole S → (t : TimedStep) (place : ℕ) → IsCounted S place t.step → (w : World)
     → KnowsSources S cast t.now place (KnowsHubs cast S t.now place) (begun w t) → AllFrom S (begun w t) → AllFrom S (done w t)
-sources-done cast fit made S whole t place sends w known =
+sources-done law cast fit made S whole t place sends w known =
     (whole-step (KeepsBoth (KnowsSources S cast t.now place (KnowsHubs cast S t.now place)) (AllFrom S)) t
-    (beside_whole t.step (KnowsSources S cast t.now place (KnowsHubs cast S t.now place)) (AllFrom S) (knows_sources cast fit made S t.now place t.step sends) (sources_stay cast fit S whole t.now place t.step)) w known).1
+    (beside_whole t.step (KnowsSources S cast t.now place (KnowsHubs cast S t.now place)) (AllFrom S) (knows_sources cast fit made S t.now place t.step sends)
+    (sources_stay law cast fit S whole t.now place t.step)) w known).1

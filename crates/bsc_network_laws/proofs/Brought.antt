@@ -40,7 +40,7 @@ use Rattle.bsc_node_identity.proofs.Events.{peer-goes_on}
 use Rattle.bsc_node_identity.proofs.Leading.{ways_lead_there}
 use Rattle.bsc_node_identity.proofs.Timely.{Timely, may_then}
 use Rattle.bsc_network.specs.NodeEvents.{brings_about}
-use Rattle.bsc_network_laws.specs.Carrying.{is_npdu}
+use Rattle.bsc_node_identity.specs.Npdus.{is_npdu}
 use Rattle.bsc_network_laws.proofs.Acting.{Among}
 use Rattle.bsc_network_laws.proofs.Events.{among-both}
 use Rattle.bsc_network_laws.proofs.Sent.{IsOfSend, put_is_of_send}
@@ -75,6 +75,20 @@ by-lines Q T a L e below timely word fit one two = by (list_any draws (actions_a
     by : (b : Bool) → list_any draws (actions_at a L event) ≡ b → Q (in_order (map (goes_on a) (if b then event ∷ none ∷ [] else event ∷ [])) L)
     by false drawn = subst Q (sym (brought-one a event L)) (one may)
     by true drawn = subst Q (sym (brought-two a event none L)) (two may (no_word_then T (L ++ goes_on a event L) below (now_then a L event may) (draws_at a L event may ∙ drawn)))
+
+-- They begin with the event.
+pub begins-with : (a : Made) (L : Log) (e : TimedEvent) → (later : List Line) × (brings_about a e L ≡ came e ∷ later)
+begins-with a L e = by (list_any draws (actions_at a L e))
+  where
+    none : TimedEvent
+    none = record { now = e.now; event = NoRandom }
+
+    first : List Line
+    first = follows a e.event (with_event L e)
+
+    by : (b : Bool) → (later : List Line) × (in_order (map (goes_on a) (if b then e ∷ none ∷ [] else e ∷ [])) L ≡ came e ∷ later)
+    by false = (first, brought-one a e L ∙ goes_on-is a L e)
+    by true = (first ++ goes_on a none (L ++ goes_on a e L), brought-two a e none L ∙ ap (λ (lines : List Line). lines ++ goes_on a none (L ++ goes_on a e L)) (goes_on-is a L e))
 
 -- ---- the actions
 

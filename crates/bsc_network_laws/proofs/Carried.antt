@@ -19,6 +19,7 @@ use Rattle.bsc_network_laws.proofs.Taken.{LinkFits}
 use Rattle.bsc_network_laws.proofs.SentOnLinks.{LinkSent}
 use Rattle.bsc_network_laws.specs.Peers.{PeersAreThere}
 use Rattle.bsc_network_laws.proofs.Casting.{Stays}
+use Rattle.bsc_network_laws.proofs.Reached.{UpLaw}
 use Rattle.bsc_network_laws.proofs.Running.{runs}
 use Rattle.bsc_lemmas.proofs.Lists.{all-at}
 
@@ -61,7 +62,8 @@ peers_are_there added steps course k slot n who here established =
     r.ends.peers k n slot who here (stays.knit.peers slot who established)
 
 -- Each delivery comes from the Send at its place.
-pub each_from_its_send : (added : List Added) (steps : List TimedStep) → IsCourse added steps → AllByRecursion HasAddress steps → AllByRecursion (IsFromItsSend steps (world added steps)) (deliveries added steps)
-each_from_its_send added steps course whole =
+pub each_from_its_send : UpLaw → (added : List Added) (steps : List TimedStep) → IsCourse added steps → AllByRecursion HasAddress steps
+    → AllByRecursion (IsFromItsSend steps (world added steps)) (deliveries added steps)
+each_from_its_send law added steps course whole =
     all-mapped (IsFrom (Sends steps) (world added steps)) (IsFromItsSend steps (world added steps)) (λ d from. record { sender = from.0; dest = from.1; sends = from.2; came = from.3 }) (deliveries added steps)
-    ((runs added steps course).2.from (sends_whole steps whole))
+    ((runs added steps course).2.from law (sends_whole steps whole))

@@ -38,12 +38,14 @@ use Rattle.bsc_network_laws.proofs.Events.{IsOf, by-events}
 use Rattle.bsc_network_laws.proofs.Beside.{Keeps, KeepsGiven, KeepsBoth, beside, together, acts-together, hears-beside}
 use Rattle.bsc_network_laws.proofs.Stepping.{begun, done, lets-step}
 use Rattle.bsc_network_laws.proofs.Knowing.{Knows, knows, Amid, amid, amid-first, amid-log}
+use Rattle.bsc_network_laws.proofs.Reached.{IsReached, reached-goes_on}
 use Rattle.bsc_lemmas.proofs.Lists.{all-at}
 use Rattle.std.proofs.lemmas.Option.{same_Some as some_same}
 
 -- a node's log between two events
 pub record Stays (a : Made) (L : Log) : Type 0 where
   pub knit : Knit a L
+  pub reached : IsReached a L
   pub vmac : own_vmac a L ≡ a.own.vmac
 
 -- The hubs and nodes of a network are these, and its nodes are knit.
@@ -91,7 +93,7 @@ casts-holds cast k h w c = record {
 
 -- an event and what follows from it
 pub stays-on : (a : Made) (T : ℕ) (e : NodeEvent) (M : Log) (x : TimedEvent) → IsOf T e M x → Stays a M → Stays a (M ++ goes_on a x M)
-stays-on a T e M x of s = record { knit = knit-goes_on a M x s.knit of.may; vmac = vmac-goes_on a M x of.may of.wordless ∙ s.vmac }
+stays-on a T e M x of s = record { knit = knit-goes_on a M x s.knit of.may; reached = reached-goes_on a M x s.reached of.may; vmac = vmac-goes_on a M x of.may of.wordless ∙ s.vmac }
 
 pub casts-log : (cast : Cast) (T place : ℕ) (D : WorldStep) (k : ℕ) (n : Node) (by : Option Arrival) (e : NodeEvent) (w : World) → node_at w k ≡ Some n → Comes D w k n by e → fits n.log e ≡ true → Knows T place w
     → Casts cast w → Casts cast (goes_on_in k (record { now = w.now; event = e }) w)

@@ -25,7 +25,8 @@ use Rattle.bsc_network.specs.Worlds.{World, Hub, Link, Posted, entries, history,
 use Rattle.bsc_network.specs.Outboxes.{Frame, frames}
 use Rattle.bsc_network.proofs.Places.{all-mapped}
 use Rattle.bsc_network_laws.specs.Ends.{receiver, putter, messages}
-use Rattle.bsc_network_laws.specs.Carrying.{is_npdu, npdus, taken_of}
+use Rattle.bsc_node_identity.specs.Npdus.{is_npdu}
+use Rattle.bsc_network_laws.specs.Carrying.{npdus, taken_of}
 use Rattle.bsc_network_laws.specs.Connecting.{IsOfDialler, JoinsDiallers, is_conn, HasJoinedBy}
 use Rattle.bsc_network_laws.specs.Naming.{Cast, identity_in}
 use Rattle.bsc_network_laws.proofs.SideFits.{SideFits}

@@ -3,16 +3,9 @@ use Rattle.bsc_network.specs.NodeSides.{other_way}
 use Rattle.bsc_network.specs.Worlds.{Link}
 use Rattle.bsc_network.specs.declared.way.Way.{Way}
 use Rattle.bsc_network.specs.declared.way.Way.TheVariants.{Up, Down}
-use Rattle.bsc_network_laws.specs.Carrying.{is_npdu}
 use Rattle.bsc_network_laws.specs.Ends.{receiver, putter}
-use Rattle.bsc_octets.specs.Forwarding.{out}
-use Rattle.bsc_octets.specs.declared.vmac.Vmac.{Vmac}
-use Rattle.std.proofs.Common.{◌≡◌, refl, List, ℕ}
+use Rattle.std.proofs.Common.{◌≡◌, refl}
 
 pub puts-other : (way : Way) (x : Link) → putter (other_way way) x ≡ receiver way x
 puts-other Up x = refl
 puts-other Down x = refl
-
-pub out-npdu : (m : List ℕ) (v : Vmac) → is_npdu (out m v) ≡ is_npdu m
-unfolding out
-out-npdu m v = refl

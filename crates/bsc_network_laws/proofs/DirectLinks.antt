@@ -6,8 +6,10 @@ use Rattle.bsc_octets.specs.declared.identity.Identity.{Identity}
 use Rattle.bsc_octets.specs.declared.vmac.Vmac.{Vmac}
 use Rattle.bsc_frame.specs.declared.body.Body.TheVariants.{Npdu}
 use Rattle.bsc_node.specs.declared.link_name.LinkName.TheVariants.{Direct}
+use Rattle.bsc_node.specs.declared.node_event.NodeEvent.TheVariants.{Send}
+use Rattle.bsc_node.specs.declared.timed_event.TimedEvent.{TimedEvent}
 use Rattle.bsc_node.specs.Messages.{message_octets}
-use Rattle.bsc_node.specs.Logs.{Log}
+use Rattle.bsc_node.specs.Logs.{Line, came, Log}
 use Rattle.bsc_network.specs.declared.way.Way.{Way}
 use Rattle.bsc_network.specs.declared.way.Way.TheVariants.{Up, Down}
 use Rattle.bsc_network.specs.declared.target.Target.{Target}
@@ -23,7 +25,7 @@ use Rattle.bsc_network.specs.Dialling.{new_link}
 use Rattle.bsc_network.proofs.Places.{got-changed, got-longer, got-last_of, all-mapped}
 use Rattle.bsc_network_laws.specs.Ends.{receiver, putter, message_of, messages}
 use Rattle.bsc_network_laws.specs.Carrying.{Sendings, npdus}
-use Rattle.bsc_network_laws.specs.Deliveries.{IsAmong, WasEstablished}
+use Rattle.bsc_network_laws.specs.Deliveries.{IsAmong, SentOver}
 use Rattle.bsc_network_laws.specs.Naming.{Cast, identity_in}
 use Rattle.bsc_network_laws.proofs.Moves.{IsSide}
 use Rattle.bsc_network_laws.proofs.SideFits.{npdus-more}
@@ -35,7 +37,7 @@ use Rattle.std.proofs.lemmas.Option.{same_Some as some_same}
 
 -- ---- what is kept
 
--- Node k put the frame on this way of the link for a Send to node j, with whom it had the link as an established slot.
+-- Node k put the frame on this way of the link for a Send to node j, with whom it had the link as an established slot then.
 pub record IsSentDirectly (S : Sendings) (cast : Cast) (w : World) (l : ℕ) (way : Way) (k j : ℕ) (f : Frame) : Type 0 where
   pub dest : Vmac
   pub npdu : List ℕ
@@ -46,7 +48,7 @@ pub record IsSentDirectly (S : Sendings) (cast : Cast) (w : World) (l : ℕ) (wa
   pub octets : f.octets ≡ message_octets id None (Npdu npdu)
   pub small : id < 2 ^ 16
   pub at_sender : node_at w k ≡ Some from
-  pub slot : WasEstablished from l (other_way way) who
+  pub sent : SentOver from dest npdu l (other_way way) who
   pub is : identity_in cast (ToNode j) ≡ Some who
   pub destination : dest ≡ who.vmac
 
@@ -64,13 +66,18 @@ AllDirect S cast w = (l : ℕ) (x : Link) (way : Way) (k j : ℕ) → IsDirect w
 pub among-longer : {A : Type 0} (xs ys : List A) (x : A) → Longer xs ys → IsAmong xs x → IsAmong ys x
 among-longer xs ys x g (place, here) = (place, ap (λ (l : List _). slice_get l place) g.is ∙ got-longer xs g.more place x here)
 
-pub established-grows : (n m : Node) (l : ℕ) (way : Way) (who : Identity) → NodeGrows n m → WasEstablished n l way who → WasEstablished m l way who
-established-grows n m l way who g s = record {
+-- An event stays in the log of a node behind what stood before it.
+pub log-grows : (n m : Node) (before : Log) (e : TimedEvent) (later : List Line) (g : NodeGrows n m) → n.log ≡ before ++ came e ∷ later → m.log ≡ before ++ came e ∷ (later ++ g.log.more)
+log-grows n m before e later g is = g.log.is ∙ ap (λ (L : Log). L ++ g.log.more) is ∙ append_assoc before (came e ∷ later) g.log.more
+
+pub sent_over-grows : (n m : Node) (dest : Vmac) (npdu : List ℕ) (l : ℕ) (way : Way) (who : Identity) → NodeGrows n m → SentOver n dest npdu l way who → SentOver m dest npdu l way who
+sent_over-grows n m dest npdu l way who g s = record {
   slot = s.slot;
   held = among-longer n.holds m.holds (record { name = Direct s.slot; link = l; hears = way }) g.holds s.held;
   before = s.before;
+  now = s.now;
   later = s.later ++ g.log.more;
-  log = g.log.is ∙ ap (λ (L : Log). L ++ g.log.more) s.log ∙ append_assoc s.before s.later g.log.more;
+  log = log-grows n m s.before (record { now = s.now; event = Send dest npdu }) s.later g s.log;
   established = s.established;
 }
 
@@ -87,7 +94,7 @@ sent-lasts S cast u v g l way k j f s =
       octets = s.octets;
       small = s.small;
       at_sender = m.1;
-      slot = established-grows s.from m.0 l (other_way way) s.who m.2 s.slot;
+      sent = sent_over-grows s.from m.0 s.dest s.npdu l (other_way way) s.who m.2 s.sent;
       is = s.is;
       destination = s.destination;
     }

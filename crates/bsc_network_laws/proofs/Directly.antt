@@ -18,7 +18,7 @@ use Rattle.bsc_node.specs.declared.action.Action.{Action}
 use Rattle.bsc_node.specs.declared.action.Action.TheVariants.{Put, Take, Dial}
 use Rattle.bsc_node.specs.Messages.{message_octets}
 use Rattle.bsc_node.specs.Conditions.{fits, brings_word}
-use Rattle.bsc_node.specs.Logs.{Made, Log}
+use Rattle.bsc_node.specs.Logs.{Made, Line, came, Log}
 use Rattle.bsc_node.specs.Links.{same_link}
 use Rattle.bsc_node.specs.Ways.{established_peer}
 use Rattle.bsc_node_identity.specs.Carried.{LeadsTo}
@@ -41,7 +41,8 @@ use Rattle.bsc_network.specs.Dialling.{new_link}
 use Rattle.bsc_network.specs.NodeEvents.{brings_about, hears}
 use Rattle.bsc_network.proofs.Places.{got-changed, get-changed, all-mapped, all-found, all-reversed}
 use Rattle.bsc_network_laws.specs.Ends.{receiver, putter, message_of}
-use Rattle.bsc_network_laws.specs.Carrying.{Sendings, is_npdu, npdus}
+use Rattle.bsc_node_identity.specs.Npdus.{is_npdu}
+use Rattle.bsc_network_laws.specs.Carrying.{Sendings, npdus}
 use Rattle.bsc_network_laws.specs.Deliveries.{IsAmong}
 use Rattle.bsc_network_laws.specs.Naming.{Cast}
 use Rattle.bsc_network_laws.specs.Peers.{other_end, who_is}
@@ -54,12 +55,12 @@ use Rattle.bsc_network_laws.proofs.Holding.{EndOf, HoldsFit}
 use Rattle.bsc_network_laws.proofs.Casting.{Stays, AmidAll}
 use Rattle.bsc_network_laws.proofs.PutBySends.{sent_is_own}
 use Rattle.bsc_network_laws.proofs.SentOnLinks.{IsCounted}
-use Rattle.bsc_network_laws.proofs.Lasting.{Longer, NodeGrows, Lasts, lasts-then, lasts-log, lasts-longer, lasts-puts}
+use Rattle.bsc_network_laws.proofs.Lasting.{NodeGrows, Lasts, lasts-none, lasts-then, lasts-log, lasts-longer, lasts-puts}
 use Rattle.bsc_network_laws.proofs.Lasting as Lasting
-use Rattle.bsc_network_laws.proofs.Brought.{at_once, IsDue, each-due, IsSentOver, IsPutOver, each-over}
+use Rattle.bsc_network_laws.proofs.Brought.{at_once, begins-with, IsDue, each-due, IsSentOver, IsPutOver, each-over}
 use Rattle.bsc_network_laws.proofs.MadeWell.{IsSet, MadeWell}
 use Rattle.bsc_network_laws.proofs.OtherEnds.{LeadsToHub, HubsLead, hubs-same, hubs-holds, hubs-log, leads-taken, leads-dialled, who-lasts, puts-nodes, held-other, found-passes, acts-after, set-of, KnowsEnds}
-use Rattle.bsc_network_laws.proofs.DirectLinks.{IsSentDirectly, AllDirect, sent-lasts, direct-same, direct-link, spares-lost, spares-front, direct-side, direct-puts, direct-hub, direct-longer}
+use Rattle.bsc_network_laws.proofs.DirectLinks.{IsSentDirectly, AllDirect, log-grows, sent-lasts, direct-same, direct-link, spares-lost, spares-front, direct-side, direct-puts, direct-hub, direct-longer}
 use Rattle.bsc_lemmas.proofs.Lists.{all-at}
 use Rattle.bsc_network.proofs.Common.{same_node}
 use Rattle.bsc_network_laws.proofs.Common.{puts-other}
@@ -80,7 +81,7 @@ pub each-among : {A : Type 0} (xs : List A) → AllByRecursion (IsAmong xs) xs
 each-among [] = tt
 each-among (x ∷ xs) = ((0, refl), all-mapped (IsAmong xs) (IsAmong (x ∷ xs)) (λ y a. (suc a.0, a.1)) xs (each-among xs))
 
-newest-among : {A : Type 0} (test : A → Bool) (xs : List A) (x : A) → newest test xs ≡ Some x → IsAmong xs x
+pub newest-among : {A : Type 0} (test : A → Bool) (xs : List A) (x : A) → newest test xs ≡ Some x → IsAmong xs x
 newest-among test xs x h = all-found (IsAmong xs) test _ x (all-reversed (IsAmong xs) xs (each-among xs)) h
 
 -- the name of what a node has under a name
@@ -89,7 +90,7 @@ held-name name m h is = same_link-true h.name name (found-passes (λ (g : Hold).
 
 -- what is known of the event, while its actions are carried out
 record Within (S : Sendings) (cast : Cast) (w : World) (k : ℕ) (n : Node) (e : NodeEvent) (u : World) : Type 0 where
-  grown : Lasts w u
+  grown : Lasts (goes_on_in k (at_once w.now e) w) u
   hubs : HubsLead u
   same : is_beginning e ≡ false → (s : ℕ) (m : Node) → node_at u k ≡ Some m → hold_of (Direct s) m ≡ hold_of (Direct s) n
   direct : AllDirect S cast u
@@ -112,11 +113,17 @@ put-directly S cast place w u k n m e name o h x j b i here held found hears s =
     is_hub : (t : Option Target) (a : ℕ) → t ≡ Some (ToNode j) → t ≡ Some (ToHub a) → ⊥
     is_hub t a p q = cc
 
-    grown : (y : Node) × (node_at u k ≡ Some y) × NodeGrows n y
-    grown = i.grown.nodes.at k n b.here
+    longer : Node → Node
+    longer x = record x { log = x.log ++ brings_about x.made (at_once w.now e) x.log }
 
-    log : Longer n.log m.log
-    log = subst (λ (y : Node). Longer n.log y.log) (some_same grown.0 m (sym grown.1 ∙ here)) grown.2.log
+    grown : (y : Node) × (node_at u k ≡ Some y) × NodeGrows (longer n) y
+    grown = i.grown.nodes.at k (longer n) (get-changed k longer w.nodes ∙ ap (option_map longer) b.here)
+
+    since : NodeGrows (longer n) m
+    since = subst (NodeGrows (longer n)) (some_same grown.0 m (sym grown.1 ∙ here)) grown.2
+
+    lines : (later : List Line) × (brings_about n.made (at_once w.now e) n.log ≡ came (at_once w.now e) ∷ later)
+    lines = begins-with n.made n.log (at_once w.now e)
 
     by : (link : LinkName) → name ≡ link → LeadsTo n.log s.dest link s.to → IsSentDirectly S cast u h.link (other_way h.hears) k j (record { octets = o; sent_at = place })
     by (HubName side) is leads =
@@ -139,15 +146,17 @@ put-directly S cast place w u k n m e name o h x j b i here held found hears s =
           octets = s.octets ∙ ap (λ (to : Option Vmac). message_octets s.id to (Npdu s.npdu)) none;
           small = s.small;
           at_sender = here;
-          slot = record {
+          sent = record {
             slot = slot;
             held = subst (IsAmong m.holds) one (newest-among (λ (g : Hold). same_link g.name name) m.holds h held);
             before = n.log;
-            later = log.more;
-            log = log.is;
+            now = w.now;
+            later = lines.0 ++ since.log.more;
+            log = log-grows (longer n) m n.log (at_once w.now (Send s.dest s.npdu)) lines.0 since
+                (ap (λ (x : List Line). n.log ++ x) lines.1 ∙ ap (λ (x : NodeEvent). n.log ++ came (at_once w.now x) ∷ lines.0) s.event);
             established = established;
           };
-          is = sym (ap (who_is cast) end) ∙ who-lasts cast w u i.grown (Some h) who there;
+          is = sym (ap (who_is cast) end) ∙ who-lasts cast w u (lasts-then w (goes_on_in k (at_once w.now e) w) u (lasts-log w k (at_once w.now e)) i.grown) (Some h) who there;
           destination = sym at;
         }
 
@@ -193,7 +202,7 @@ direct-closes S cast u k name all = at_node (node_at u k)
 
 within-same : (S : Sendings) (cast : Cast) (w : World) (k : ℕ) (n : Node) (e : NodeEvent) (u v : World) → Lasts u v → v.nodes ≡ u.nodes → AllDirect S cast v → Within S cast w k n e u → Within S cast w k n e v
 within-same S cast w k n e u v g same direct i = record {
-  grown = lasts-then w u v i.grown g;
+  grown = lasts-then (goes_on_in k (at_once w.now e) w) u v i.grown g;
   hubs = hubs-same u v g same i.hubs;
   same = λ quiet s m here. i.same quiet s m (ap (λ (ns : List Node). slice_get ns k) (sym same) ∙ here);
   direct = direct;
@@ -201,7 +210,7 @@ within-same S cast w k n e u v g same direct i = record {
 
 within-holds : (S : Sendings) (cast : Cast) (w : World) (k : ℕ) (n : Node) (e : NodeEvent) (u : World) (h : Hold) → LeadsToHub u h → (is_beginning e ≡ false → (s : ℕ) → same_link h.name (Direct s) ≡ false) → Within S cast w k n e u → Within S cast w k n e (holds k h u)
 within-holds S cast w k n e u h leads other i = record {
-  grown = lasts-then w u (holds k h u) i.grown (Lasting.lasts-holds u k h);
+  grown = lasts-then (goes_on_in k (at_once w.now e) w) u (holds k h u) i.grown (Lasting.lasts-holds u k h);
   hubs = hubs-holds u k h leads i.hubs;
   same = λ quiet s m here. by quiet s m (got-changed k (λ (x : Node). record x { holds = x.holds ++ h ∷ [] }) u.nodes k m here);
   direct = direct-same S cast u (holds k h u) (Lasting.lasts-holds u k h) refl i.direct;
@@ -247,7 +256,7 @@ direct-hears S cast made T place D sends w k n by e here come fit m i =
     (acts-after cast T place D k w n by e (Known n.made e n.log) (Within S cast w k n e) here come fit (each_act S cast T place k w n by e made (set-of cast w k n made m.0.0.1 here) before) m.0.0
     (λ action among. (each-due w.now n.made n.log e below timely word fit action among, each-over w.now n.made n.log e below timely word fit action among))
     (record {
-      grown = lasts-log w k (at_once w.now e);
+      grown = lasts-none (goes_on_in k (at_once w.now e) w);
       hubs = hubs-log w k w.now e m.1.hubs;
       same = λ quiet s x at. ap (hold_of (Direct s)) (some_same x (longer n) (sym at ∙ get-changed k longer w.nodes ∙ ap (option_map longer) here));
       direct = direct-same S cast w (goes_on_in k (at_once w.now e) w) (lasts-log w k (at_once w.now e)) refl i;

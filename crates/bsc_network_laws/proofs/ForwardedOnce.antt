@@ -22,7 +22,7 @@ use Rattle.bsc_network.specs.HubCalls.{called, entry_in}
 use Rattle.bsc_network.specs.HubSides.{told}
 use Rattle.bsc_network.specs.NodeSides.{hold_of, puts_on, puts_by}
 use Rattle.bsc_network.proofs.Places.{got-changed, got-last_of, get-changed}
-use Rattle.bsc_network_laws.specs.Carrying.{is_npdu}
+use Rattle.bsc_node_identity.specs.Npdus.{is_npdu}
 use Rattle.bsc_network_laws.proofs.Moves.{IsSide, HasArrived, Lets}
 use Rattle.bsc_network_laws.proofs.Acting.{goes_on_in, LetsActs, lets-hears}
 use Rattle.bsc_network_laws.proofs.Beside.{Keeps}

@@ -14,6 +14,7 @@ pub mod OwnOctets
 pub mod SideFits
 pub mod Taken
 pub mod Knowing
+pub mod Reached
 pub mod Casting
 pub mod Sent
 pub mod PutBySends

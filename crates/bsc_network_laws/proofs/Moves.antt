@@ -1,6 +1,6 @@
 -- What a step of a network is made of: the moves, each with what is known where it is made.
 use Rattle.std.proofs.Common.{◌≡◌, ◌⊎◌, ℕ, suc, Bool, true, false, List, [], ◌∷◌, ◌++◌, Option, Some, None}
-use Rattle.std.specs.Prelude.{◌+◌, slice_get, ⊤}
+use Rattle.std.specs.Prelude.{◌+◌, slice_get}
 use Rattle.std.specs.Option.{option_map}
 use Rattle.bsc_octets.specs.declared.identity.Identity.{Identity}
 use Rattle.bsc_history.specs.declared.limits.About.{About}
@@ -8,7 +8,6 @@ use Rattle.bsc_history.specs.declared.call.Call.TheVariants.{Connect, Forward, L
 use Rattle.bsc_history.specs.declared.reply.Reply.{Reply}
 use Rattle.bsc_history.specs.declared.reply.Reply.TheVariants.{Joined}
 use Rattle.bsc_history.specs.Replies.{is_stopped}
-use Rattle.bsc_checks.specs.declared.place.Place.{Place}
 use Rattle.bsc_checks.specs.declared.place.Place.TheVariants.{HubPort}
 use Rattle.bsc_checks.specs.Outcomes.{outcome_of}
 use Rattle.bsc_accept.specs.declared.start.Start.{Start}
@@ -23,6 +22,7 @@ use Rattle.bsc_node.specs.declared.link_name.LinkName.{LinkName}
 use Rattle.bsc_node.specs.declared.node_event.NodeEvent.{NodeEvent}
 use Rattle.bsc_node.specs.declared.node_event.NodeEvent.TheVariants.{DialFailed, Lost}
 use Rattle.bsc_node.specs.Conditions.{fits}
+use Rattle.bsc_node_identity.proofs.OwnOctets.{IsJudged}
 use Rattle.bsc_network.specs.declared.world_step.WorldStep.{WorldStep}
 use Rattle.bsc_network.specs.declared.world_step.WorldStep.TheVariants.{Node as OfNode}
 use Rattle.bsc_network.specs.declared.way.Way.{Way}
@@ -72,11 +72,6 @@ abbrev pub octets_wanted : Step → Option (List ℕ)
 octets_wanted (Put o) = Some o.items
 octets_wanted (PutClose o c) = Some o.items
 octets_wanted other = None
-
--- a message that comes with a verdict was judged so
-abbrev pub IsJudged : Event → Type 0
-IsJudged (CameToHub now verdict) = (m : List ℕ) × (place : Place) × (max : ℕ) × (verdict ≡ outcome_of m place max)
-IsJudged e = ⊤
 
 -- the machine of such a hub wants this at some event
 abbrev pub IsWanted : About → Step → Type 0

@@ -22,10 +22,11 @@ use Rattle.bsc_network.specs.Worlds.{Hub, Posted, entries}
 use Rattle.bsc_network.specs.Outboxes.{Frame, at_place, frames_by, frames_after, frames_of, frames}
 use Rattle.bsc_network.proofs.Places.{all-mapped}
 use Rattle.bsc_network_laws.specs.Ends.{message_of}
-use Rattle.bsc_network_laws.specs.Carrying.{is_npdu, npdus}
+use Rattle.bsc_node_identity.specs.Npdus.{is_npdu}
+use Rattle.bsc_network_laws.specs.Carrying.{npdus}
 use Rattle.bsc_network_laws.proofs.ForwardedOnce.{IsForward}
 use Rattle.bsc_network_laws.proofs.Named.{all-messages}
-use Rattle.bsc_network_laws.proofs.Common.{out-npdu}
+use Rattle.bsc_node_identity.proofs.Npdus.{out-npdu}
 use Rattle.std.proofs.lemmas.Option.{same_Some as some_same}
 
 -- No two of these have one place.

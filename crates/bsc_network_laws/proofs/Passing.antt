@@ -46,7 +46,8 @@ use Rattle.bsc_network.specs.Outboxes.{Frame, at_place, frames, frames_by}
 use Rattle.bsc_network.proofs.Frames.{frames-more}
 use Rattle.bsc_network.proofs.Places.{all-mapped, got-changed}
 use Rattle.bsc_network_laws.specs.Ends.{messages}
-use Rattle.bsc_network_laws.specs.Carrying.{Sendings, is_npdu, npdus, IsSentBy}
+use Rattle.bsc_node_identity.specs.Npdus.{is_npdu}
+use Rattle.bsc_network_laws.specs.Carrying.{Sendings, npdus, IsSentBy}
 use Rattle.bsc_network_laws.specs.Naming.{Cast}
 use Rattle.bsc_network_laws.specs.Connecting.{is_conn, HasJoinedBy}
 use Rattle.bsc_network_laws.specs.Passing.{IsPassedOn, IsPassedTo, PassesOn}
@@ -63,7 +64,7 @@ use Rattle.bsc_network_laws.proofs.Legally.{KnowsSides, Legally}
 use Rattle.bsc_accept.proofs.Common.{carries_by}
 use Rattle.bsc_lemmas.proofs.Lists.{all-at, all_append as all-joined}
 use Rattle.bsc_lemmas.proofs.Options.{found_some}
-use Rattle.bsc_network_laws.proofs.Common.{out-npdu as npdu-out}
+use Rattle.bsc_node_identity.proofs.Npdus.{out-npdu as npdu-out}
 use Rattle.std.proofs.lemmas.Option.{same_Some as some_same}
 
 -- ---- some of the frames

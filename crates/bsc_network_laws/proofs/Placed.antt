@@ -20,7 +20,7 @@ use Rattle.bsc_network.specs.NodeSides.{other_way, hold_of, puts_on, puts_by}
 use Rattle.bsc_network.specs.Dialling.{new_link, dials}
 use Rattle.bsc_network.proofs.Places.{got-changed, got-last_of}
 use Rattle.bsc_network_laws.specs.Ends.{putter}
-use Rattle.bsc_network_laws.specs.Carrying.{is_npdu}
+use Rattle.bsc_node_identity.specs.Npdus.{is_npdu}
 use Rattle.bsc_network_laws.proofs.Acting.{LetsActs}
 use Rattle.bsc_network_laws.proofs.SideFits.{CarriesNone}
 use Rattle.bsc_network.proofs.Common.{not_both}

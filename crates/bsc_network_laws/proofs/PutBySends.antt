@@ -29,7 +29,8 @@ use Rattle.bsc_network.specs.Worlds.{World, Node}
 use Rattle.bsc_network.specs.NodeEvents.{brings_about}
 use Rattle.bsc_network.specs.NodeSides.{name_of}
 use Rattle.bsc_network.specs.Arriving.{event_of}
-use Rattle.bsc_network_laws.specs.Carrying.{Sendings, is_npdu, IsSentBy}
+use Rattle.bsc_node_identity.specs.Npdus.{is_npdu}
+use Rattle.bsc_network_laws.specs.Carrying.{Sendings, IsSentBy}
 use Rattle.bsc_network_laws.proofs.Acting.{Among}
 use Rattle.bsc_network_laws.proofs.Moves.{Comes}
 use Rattle.bsc_network_laws.proofs.Sent.{IsOfSend, put_is_of_send}

@@ -1,19 +1,12 @@
 -- After each step, each delivery has a receipt of its own: where what it delivers has arrived.
-use Rattle.std.proofs.Common.{◌≡◌, ◌≢◌, ◌<◌, ◌⊎◌, inl, inr, ℕ, suc, Bool, true, false, cond, List, [], ◌∷◌, ◌++◌, Option, Some, None, refl, ap, sym, subst, ◌∙◌, arith}
-use Rattle.std.specs.Prelude.{◌+◌, ◌==◌, ◌^◌, IsTrue, slice_get, filter, filter_map, ⊤}
+use Rattle.std.proofs.Common.{◌≡◌, ◌≢◌, ◌<◌, ◌⊎◌, inl, inr, ℕ, suc, true, false, List, [], ◌∷◌, ◌++◌, Option, Some, None, refl, ap, sym, subst, ◌∙◌, arith}
+use Rattle.std.specs.Prelude.{◌+◌, ◌^◌, IsTrue, slice_get, filter, filter_map, ⊤}
 use Rattle.std.specs.Option.{option_map}
 use Rattle.std.specs.List.{AllByRecursion}
-use Rattle.bsc_direct.proofs.OneMore.{both_ways}
 use Rattle.bsc_octets.specs.declared.vmac.Vmac.{Vmac}
-use Rattle.bsc_octets.specs.Forwarding.{function_in}
 use Rattle.bsc_frame.specs.declared.message.Message.{Message as FrameMessage}
-use Rattle.bsc_frame.specs.declared.body.Body.{Body}
 use Rattle.bsc_frame.specs.declared.body.Body.TheVariants.{Npdu}
-use Rattle.bsc_checks.specs.declared.place.Place.{Place}
 use Rattle.bsc_checks.specs.declared.verdict.Verdict.TheVariants.{Pass}
-use Rattle.bsc_checks.specs.Outcomes.{outcome_of}
-use Rattle.bsc_checks.specs.Payloads.{body_in}
-use Rattle.bsc_checks.specs.Options.{rest_of, data_options_in}
 use Rattle.bsc_node.specs.declared.delivered.Delivered.{Delivered}
 use Rattle.bsc_node.specs.declared.link_name.LinkName.{LinkName}
 use Rattle.bsc_node.specs.declared.node_event.NodeEvent.{NodeEvent}
@@ -28,8 +21,6 @@ use Rattle.bsc_node.specs.Receiving.{sender}
 use Rattle.bsc_node.specs.Logs.{Made, Log, action_of}
 use Rattle.bsc_node.specs.Node.{actions_at}
 use Rattle.bsc_node.proofs.Delivering.{delivers_what_came}
-use Rattle.bsc_node.proofs.Heard.{is_npdu_body}
-use Rattle.bsc_node_identity.proofs.Carried.{passed-said}
 use Rattle.bsc_node_identity.proofs.Timely.{Timely}
 use Rattle.bsc_network.specs.declared.world_step.WorldStep.{WorldStep}
 use Rattle.bsc_network.specs.declared.world_delivery.WorldDelivery.{WorldDelivery}
@@ -50,7 +41,8 @@ use Rattle.bsc_network.specs.Arriving.{event_of}
 use Rattle.bsc_network.specs.Refusals.{is_own}
 use Rattle.bsc_network.proofs.Places.{all-mapped, found-in, get-changed}
 use Rattle.bsc_network_laws.specs.Ends.{receiver}
-use Rattle.bsc_network_laws.specs.Carrying.{is_npdu}
+use Rattle.bsc_node_identity.specs.Npdus.{is_npdu}
+use Rattle.bsc_node_identity.proofs.Npdus.{passed-npdu}
 use Rattle.bsc_network_laws.specs.Deliveries.{AreApart, Apart}
 use Rattle.bsc_network_laws.proofs.Moves.{IsHeardBy, HasArrived, Comes, Lets}
 use Rattle.bsc_network_laws.proofs.Acting.{goes_on_in, LetsActs}
@@ -161,32 +153,6 @@ arrived_next B w l way p come begins x here =
     let on : without_front (traffic way x) ≡ come.on = sym (traffic-with way without_front x) ∙ some_same (traffic way (f x)) come.on (sym (ap (option_map (traffic way)) there) ∙ come.found) in
     let last : (traffic way x).arrived + 1 ≡ suc come.place = ap (λ (t : Traffic). t.arrived) on ∙ come.last in
     omega arith
-
--- ---- what is delivered is an NPDU
-
-no-if : (b : Bool) (x y : Body) → (b ≡ true → is_npdu_body x ≡ false) → is_npdu_body y ≡ false → is_npdu_body (cond b x y) ≡ false
-no-if true x y p q = p refl
-no-if false x y p q = q
-
-pub no_npdu_in : (f : ℕ) (p : List ℕ) → (f == 0x01) ≡ false → is_npdu_body (body_in f p) ≡ false
-no_npdu_in f p npdu =
-    no-if (f == 0x00) _ _ (λ e. refl) (no-if (f == 0x01) _ _ (λ e. both_ways (f == 0x01) e npdu) (no-if (f == 0x02) _ _ (λ e. refl) (no-if (f == 0x03) _ _ (λ e. refl) (no-if (f == 0x04) _ _ (λ e. refl) (no-if (f == 0x05) _ _ (λ e. refl)
-    (no-if (f == 0x06) _ _ (λ e. refl) (no-if (f == 0x07) _ _ (λ e. refl) (no-if (f == 0x08) _ _ (λ e. refl) (no-if (f == 0x09) _ _ (λ e. refl)
-    (no-if (f == 0x0A) _ _ (λ e. refl) (no-if (f == 0x0B) _ _ (λ e. refl) refl)))))))))))
-
--- A message that passes with an NPDU is an Encapsulated-NPDU.
-pub passed-npdu : (o : List ℕ) (place : Place) (max : ℕ) (msg : FrameMessage) (npdu : List ℕ) → outcome_of o place max ≡ Pass msg → msg.body ≡ Npdu npdu → is_npdu o ≡ true
-passed-npdu o place max msg npdu passed body = by (is_npdu o) refl
-  where
-    said : body_in (function_in o) (rest_of (data_options_in o)) ≡ Npdu npdu
-    said = ap (λ (m : FrameMessage). m.body) (passed-said o place max msg passed) ∙ body
-
-    no : false ≡ true → ⊥
-    no h = cc
-
-    by : (b : Bool) → is_npdu o ≡ b → is_npdu o ≡ true
-    by true is = is
-    by false is = absurd (no (sym (no_npdu_in (function_in o) (rest_of (data_options_in o)) is) ∙ ap is_npdu_body said))
 
 -- ---- an event comes to a node
 

@@ -58,6 +58,7 @@ use Rattle.bsc_network_laws.proofs.PutOnce.{ArePutOnce, PutBefore, OnePut, one_o
 use Rattle.bsc_network_laws.proofs.Receipts.{HasReceipts, receipts-same, receipts_stay}
 use Rattle.bsc_network_laws.proofs.ForwardedOnce.{ForwardAt, ForwardsFit, forwards-same, forwards_fit}
 use Rattle.bsc_network_laws.proofs.HubsThere.{HubsThere, hubs_there}
+use Rattle.bsc_network_laws.proofs.Reached.{reached-at_first, UpLaw}
 use Rattle.bsc_lemmas.proofs.Options.{some_none_any as some_none}
 
 -- What holds after so many steps, the last of which was at the time T.
@@ -84,7 +85,7 @@ pub record Runs (cast : Cast) (S : Sendings) (T place : ℕ) (w : World) : Type 
   pub receipts : HasReceipts w
   pub forwards : ForwardsFit w
   pub there : HubsThere w
-  pub from : AreWhole S → AllFrom S w
+  pub from : UpLaw → AreWhole S → AllFrom S w
 
 sent-makes : (cast : Cast) (S : Sendings) (T : ℕ) (w : World) (t : TimedStep) → Runs cast S T w.steps w → T ≤ t.now → t.now < 2 ^ 62 → IsCounted S w.steps t.step → AllSent S (makes w t)
 sent-makes cast S T w t r after below sends =
@@ -149,10 +150,11 @@ sources-begun cast S T w t r after below = (
   },
 )
 
-from-makes : (cast : Cast) → IsFit cast → (S : Sendings) (T : ℕ) (w : World) (t : TimedStep) → Runs cast S T w.steps w → T ≤ t.now → t.now < 2 ^ 62 → IsCounted S w.steps t.step → AreWhole S → AllFrom S (makes w t)
-from-makes cast fit S T w t r after below sends whole =
+from-makes : (cast : Cast) → IsFit cast → (S : Sendings) (T : ℕ) (w : World) (t : TimedStep) → Runs cast S T w.steps w → T ≤ t.now → t.now < 2 ^ 62 → IsCounted S w.steps t.step
+    → UpLaw → AreWhole S → AllFrom S (makes w t)
+from-makes cast fit S T w t r after below sends law whole =
     from-same S (done w t) (makes w t) (lasts-same (done w t) (makes w t) refl refl refl) refl
-    (sources-done cast fit r.made S whole t w.steps sends w (sources-begun cast S T w t r after below) (from-same S w (begun w t) (lasts-same w (begun w t) refl refl refl) refl (r.from whole)))
+    (sources-done law cast fit r.made S whole t w.steps sends w (sources-begun cast S T w t r after below) (from-same S w (begun w t) (lasts-same w (begun w t) refl refl refl) refl (r.from law whole)))
 
 one_put : (cast : Cast) (S : Sendings) (T : ℕ) (w : World) (t : TimedStep) → Runs cast S T w.steps w → T ≤ t.now → t.now < 2 ^ 62 → OnePut w.steps (done w t)
 one_put cast S T w t r after below =
@@ -235,7 +237,7 @@ map-made f g back (x ∷ xs) = ap (λ y. y ∷ map g (map f xs)) (back x) ∙ ap
 
 stays-new : (ms : List Made) → AllByRecursion (λ (n : Node). Stays n.made n.log) (map new_node ms)
 stays-new [] = tt
-stays-new (a ∷ ms) = (record { knit = knit-at_first a; vmac = refl }, stays-new ms)
+stays-new (a ∷ ms) = (record { knit = knit-at_first a; reached = reached-at_first a; vmac = refl }, stays-new ms)
 
 casts-new : (added : List Added) → Casts (cast_of added) (new_world added)
 casts-new added = record { hubs = map-made new_hub (λ h. h.about) (λ a. refl) (hubs added); nodes = map-made new_node (λ n. n.made) (λ a. refl) (nodes added); stays = stays-new (nodes added) }
@@ -326,6 +328,6 @@ runs added steps course =
       receipts = ([], tt);
       forwards = forwards-new (hubs added) (new_world added) refl;
       there = record { within = λ l j x here leads. absurd (no_link l x here) };
-      from = λ whole. tt;
+      from = λ law whole. tt;
       diallers = joined-new (cast_of added) (new_world added) (hubs added);
     }) course.made_all

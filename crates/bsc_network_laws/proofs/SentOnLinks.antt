@@ -33,7 +33,8 @@ use Rattle.bsc_network.specs.Dialling.{new_link}
 use Rattle.bsc_network.specs.NodeEvents.{brings_about, hears}
 use Rattle.bsc_network.proofs.Places.{all-changed, all-changed_here, all-found, all-reversed}
 use Rattle.bsc_network_laws.specs.Ends.{receiver, message_of, messages}
-use Rattle.bsc_network_laws.specs.Carrying.{Sendings, is_npdu, npdus, IsSentBy}
+use Rattle.bsc_node_identity.specs.Npdus.{is_npdu}
+use Rattle.bsc_network_laws.specs.Carrying.{Sendings, npdus, IsSentBy}
 use Rattle.bsc_network_laws.proofs.Moves.{IsHeardBy, IsSide, Comes, Each}
 use Rattle.bsc_network_laws.proofs.Acting.{Among, EachAct}
 use Rattle.bsc_network_laws.proofs.Sides.{side-side}

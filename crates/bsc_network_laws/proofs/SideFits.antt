@@ -24,7 +24,8 @@ use Rattle.bsc_network.specs.Traffic.{Traffic, and_then}
 use Rattle.bsc_network.specs.Worlds.{Posted, Hub, Link, entries}
 use Rattle.bsc_network.specs.Outboxes.{Frame, frames, frames_by}
 use Rattle.bsc_network_laws.specs.Ends.{message_of, messages}
-use Rattle.bsc_network_laws.specs.Carrying.{is_npdu, npdus, taken_of}
+use Rattle.bsc_node_identity.specs.Npdus.{is_npdu}
+use Rattle.bsc_network_laws.specs.Carrying.{npdus, taken_of}
 use Rattle.bsc_network.proofs.Frames.{frames-more, take-more, take-next}
 use Rattle.bsc_lemmas.proofs.Booleans.{or_false}
 use Rattle.std.proofs.lemmas.Option.{same_Some as some_same}

@@ -43,12 +43,13 @@ use Rattle.bsc_network_laws.proofs.Beside.{KeepsGiven}
 use Rattle.bsc_network_laws.proofs.Timing.{no_word_comes}
 use Rattle.bsc_network_laws.proofs.Casting.{AmidAll}
 use Rattle.bsc_network_laws.proofs.Sent.{among-filter, delivery_is_of_came, only}
-use Rattle.bsc_network_laws.proofs.Lasting.{Lasts, lasts-then, lasts-log}
+use Rattle.bsc_network_laws.proofs.Lasting.{Lasts, lasts-none, lasts-then, lasts-log}
 use Rattle.bsc_network_laws.proofs.Lasting as Lasting
 use Rattle.bsc_network_laws.proofs.Brought.{at_once, by-each}
 use Rattle.bsc_network_laws.proofs.OtherEnds.{CameBy, came_by, acts-after, KnowsEnds}
 use Rattle.bsc_network_laws.proofs.DirectLinks.{AllDirect}
 use Rattle.bsc_network_laws.proofs.CameDirectly.{came_directly, came_directly-lasts}
+use Rattle.bsc_network_laws.proofs.Reached.{UpLaw}
 use Rattle.bsc_lemmas.proofs.Lists.{all-at, all-push as all-one_more}
 use Rattle.std.proofs.lemmas.Option.{same_Some as some_same}
 
@@ -118,26 +119,34 @@ IsSourced S w k by (Deliver d) = (a : Arrival) → by ≡ Some a → IsFrom S w 
 IsSourced S w k by action = ⊤
 
 -- What is delivered at the event is of what came then.
-delivered-from : (S : Sendings) (cast : Cast) (T place : ℕ) (D : WorldStep) (w : World) (k : ℕ) (n : Node) (by : Option Arrival) (e : NodeEvent) → node_at w k ≡ Some n → Comes D w k n by e → KnowsEnds cast T place w → AllDirect S cast w
-    → HubsPart S w k n by e → IsTrue (may_come n.log (at_once w.now e)) → (d : Delivered) → Among (Deliver d) (actions_at n.made n.log (at_once w.now e)) → (a : Arrival) → by ≡ Some a → IsFrom S w (record { sent_at = a.sent_at; node = k; delivered = d })
-delivered-from S cast T place D w k n by e here come m direct hubs may d among a is = of_once (delivery_is_of_came n.made n.log (at_once w.now e) d may among)
+delivered-from : UpLaw → (S : Sendings) (cast : Cast) (T place : ℕ) (D : WorldStep) (w : World) (k : ℕ) (n : Node) (by : Option Arrival) (e : NodeEvent)
+    → node_at w k ≡ Some n → Comes D w k n by e → KnowsEnds cast T place w → AllDirect S cast w
+    → HubsPart S w k n by e → IsTrue (may_come n.log (at_once w.now e)) → (d : Delivered) → Among (Deliver d) (actions_at n.made n.log (at_once w.now e)) → (a : Arrival) → by ≡ Some a
+    → IsFrom S (goes_on_in k (at_once w.now e) w) (record { sent_at = a.sent_at; node = k; delivered = d })
+delivered-from law S cast T place D w k n by e here come m direct hubs may d among a is = of_once (delivery_is_of_came n.made n.log (at_once w.now e) d may among)
   where
+    later : World
+    later = goes_on_in k (at_once w.now e) w
+
     filtered : Among (Deliver d) (delivered_at n.made n.log (at_once w.now e))
     filtered = among-filter _ (Deliver d) (actions_at n.made n.log (at_once w.now e)) refl among
 
     by_end : (name : LinkName) (o : List ℕ) (msg : Message) (npdu : List ℕ) (v : Vmac) (c : CameBy w k n name o by) → e ≡ Came name o → verdict n.made (with_event n.log (at_once w.now e)) name o ≡ Pass msg → msg.body ≡ Npdu npdu
-        → sender name msg (with_heard n.made n.log (at_once w.now e) name o) ≡ Some v → (t : Target) → putter c.arrival.way c.link ≡ t → IsFrom S w (record { sent_at = c.arrival.sent_at; node = k; delivered = delivery msg npdu v })
-    by_end name o msg npdu v c comes passed body from (ToHub j) puts = hubs name o c j msg npdu v comes puts passed body from
+        → sender name msg (with_heard n.made n.log (at_once w.now e) name o) ≡ Some v → (t : Target) → putter c.arrival.way c.link ≡ t
+        → IsFrom S later (record { sent_at = c.arrival.sent_at; node = k; delivered = delivery msg npdu v })
+    by_end name o msg npdu v c comes passed body from (ToHub j) puts =
+        from-lasts S w later (record { sent_at = c.arrival.sent_at; node = k; delivered = delivery msg npdu v }) (lasts-log w k (at_once w.now e))
+        (hubs name o c j msg npdu v comes puts passed body from)
     by_end name o msg npdu v c comes passed body from (ToNode j) puts =
-        let r = came_directly S cast w k n by e name o j (record { ends = m.1; direct = direct; casts = m.0.0.1; here = here; may = may; came = comes; over = c; puts = puts }) msg npdu v passed body from in
+        let r = came_directly S cast w k n by e name o j (record { ends = m.1; direct = direct; casts = m.0.0.1; here = here; may = may; came = comes; over = c; puts = puts; law = law }) msg npdu v passed body from in
         (j, r.0, r.1, inr r.2)
 
-    of_once : IsDeliveredOnce n.made n.log (at_once w.now e) → IsFrom S w (record { sent_at = a.sent_at; node = k; delivered = d })
+    of_once : IsDeliveredOnce n.made n.log (at_once w.now e) → IsFrom S later (record { sent_at = a.sent_at; node = k; delivered = d })
     of_once (name, o, msg, npdu, v, comes, passed, body, from, one) =
         let c = came_by D w k n by e name o come comes in
         let same : d ≡ delivery msg npdu v = same_delivered d (delivery msg npdu v) (only (Deliver d) (Deliver (delivery msg npdu v)) (subst (Among (Deliver d)) one filtered)) in
-        subst (λ (x : Delivered). IsFrom S w (record { sent_at = a.sent_at; node = k; delivered = x })) (sym same)
-        (subst (λ (b : Arrival). IsFrom S w (record { sent_at = b.sent_at; node = k; delivered = delivery msg npdu v })) (some_same c.arrival a (sym c.is ∙ is))
+        subst (λ (x : Delivered). IsFrom S later (record { sent_at = a.sent_at; node = k; delivered = x })) (sym same)
+        (subst (λ (b : Arrival). IsFrom S later (record { sent_at = b.sent_at; node = k; delivered = delivery msg npdu v })) (some_same c.arrival a (sym c.is ∙ is))
         (by_end name o msg npdu v c comes passed body from (putter c.arrival.way c.link) refl))
 
 -- ---- the actions of an event
@@ -160,8 +169,8 @@ puts-delivered u k name content = at_node (node_at u k)
     at_node None = refl
     at_node (Some m) = at_hold (hold_of name m)
 
-each_act : (S : Sendings) (cast : Cast) (T place k : ℕ) (w : World) (by : Option Arrival) → EachAct k by (IsSourced S w k by) (KeepsGiven (AmidAll w cast T place) (Within S w))
-each_act S cast T place k w by = record {
+each_act : (S : Sendings) (cast : Cast) (T place k : ℕ) (before w : World) (by : Option Arrival) → EachAct k by (IsSourced S w k by) (KeepsGiven (AmidAll before cast T place) (Within S w))
+each_act S cast T place k before w by = record {
   puts = λ u name o known m. within-same S w u _ (G.each.puts u name o tt) (puts-delivered u k name (Octets o));
   closes = λ u name m. within-same S w u _ (G.each.closes u name) (puts-delivered u k name Closed);
   takes = λ u name b is known m. within-same S w u _ (G.each.takes u name b is tt) refl;
@@ -187,13 +196,17 @@ each_act S cast T place k w by = record {
 abbrev pub KnowsSources : Sendings → Cast → ℕ → ℕ → (World → Type 0) → World → Type 0
 KnowsSources S cast T place More u = KnowsEnds cast T place u × AllDirect S cast u × More u
 
-pub from-hears : (S : Sendings) (cast : Cast) (T place : ℕ) (D : WorldStep) (More : World → Type 0) (w : World) (k : ℕ) (n : Node) (by : Option Arrival) (e : NodeEvent) → HubsPart S w k n by e → node_at w k ≡ Some n → Comes D w k n by e
+pub from-hears : UpLaw → (S : Sendings) (cast : Cast) (T place : ℕ) (D : WorldStep) (More : World → Type 0) (w : World) (k : ℕ) (n : Node) (by : Option Arrival) (e : NodeEvent)
+    → HubsPart S w k n by e → node_at w k ≡ Some n → Comes D w k n by e
     → fits n.log e ≡ true → KeepsGiven (KnowsSources S cast T place More) (AllFrom S) w (hears k by (at_once w.now e) n w)
-from-hears S cast T place D More w k n by e hubs here come fit m i =
-    (acts-after cast T place D k w n by e (IsSourced S w k by) (Within S w) here come fit (each_act S cast T place k w by) m.0.0.0
-    (by-each (IsSourced S w k by) w.now n.made n.log e below timely word fit sourced none)
-    (record { grown = lasts-log w k (at_once w.now e); from = from-same S w (goes_on_in k (at_once w.now e) w) (lasts-log w k (at_once w.now e)) refl i })).from
+from-hears law S cast T place D More w k n by e hubs here come fit m i =
+    (acts-after cast T place D k w n by e (IsSourced S later k by) (Within S later) here come fit (each_act S cast T place k w later by) m.0.0.0
+    (by-each (IsSourced S later k by) w.now n.made n.log e below timely word fit sourced none)
+    (record { grown = lasts-none later; from = from-same S w later (lasts-log w k (at_once w.now e)) refl i })).from
   where
+    later : World
+    later = goes_on_in k (at_once w.now e) w
+
     below : w.now < 2 ^ 62
     below = subst (λ t. t < 2 ^ 62) (sym m.0.0.0.0.at.now) m.0.0.0.0.at.below
 
@@ -203,11 +216,11 @@ from-hears S cast T place D More w k n by e hubs here come fit m i =
     word : brings_word e ≡ false
     word = no_word_comes D w k n by e come
 
-    sourced : IsTrue (may_come n.log (at_once w.now e)) → (action : Action) → Among action (actions_at n.made n.log (at_once w.now e)) → IsSourced S w k by action
-    sourced may (Deliver d) among = λ a is. delivered-from S cast T place D w k n by e here come m.0 m.1 hubs may d among a is
+    sourced : IsTrue (may_come n.log (at_once w.now e)) → (action : Action) → Among action (actions_at n.made n.log (at_once w.now e)) → IsSourced S later k by action
+    sourced may (Deliver d) among = λ a is. delivered-from law S cast T place D w k n by e here come m.0 m.1 hubs may d among a is
     sourced may action among = tt
 
-    none : (M : Log) → IsTrue (may_come M (at_once w.now NoRandom)) → (action : Action) → Among action (actions_at n.made M (at_once w.now NoRandom)) → IsSourced S w k by action
+    none : (M : Log) → IsTrue (may_come M (at_once w.now NoRandom)) → (action : Action) → Among action (actions_at n.made M (at_once w.now NoRandom)) → IsSourced S later k by action
     none M may (Deliver d) among = λ a is. absurd (not_came (delivery_is_of_came n.made M (at_once w.now NoRandom) d may among))
       where
         not_came : IsDeliveredOnce n.made M (at_once w.now NoRandom) → ⊥

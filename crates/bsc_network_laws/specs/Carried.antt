@@ -1,4 +1,4 @@
--- What is proved of every network so far: what comes down from hubs, and what nodes put.
+-- What comes down from hubs in every network, and what nodes put.
 use Rattle.std.specs.Prelude.{◌≡◌, ℕ, List, Some}
 use Rattle.std.specs.List.{AllByRecursion}
 use Rattle.bsc_network.specs.declared.target.Target.TheVariants.{Hub as ToHub, Node as ToNode}

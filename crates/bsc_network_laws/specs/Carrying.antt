@@ -1,19 +1,15 @@
 -- Words for what NPDUs are carried, and where.
-use Rattle.std.specs.Prelude.{◌≡◌, ◌<◌, ◌^◌, ◌⊎◌, ℕ, ◌==◌, Bool, List, [], filter, take, Option, Some, None}
+use Rattle.std.specs.Prelude.{◌≡◌, ◌<◌, ◌^◌, ◌⊎◌, ℕ, List, [], filter, take, Option, Some, None}
 use Rattle.bsc_octets.specs.declared.vmac.Vmac.{Vmac}
-use Rattle.bsc_octets.specs.Forwarding.{function_in}
 use Rattle.bsc_frame.specs.declared.body.Body.TheVariants.{Npdu}
 use Rattle.bsc_node.specs.Messages.{message_octets}
+use Rattle.bsc_node_identity.specs.Npdus.{is_npdu}
 use Rattle.bsc_network.specs.Worlds.{Hub}
 use Rattle.bsc_network.specs.Outboxes.{Frame, frames}
 
 -- Which Sends there were: whether at a place a node sends an NPDU to an address.
 abbrev pub Sendings : Type 1
 Sendings = ℕ → ℕ → Vmac → List ℕ → Type 0
-
--- Whether octets are an Encapsulated-NPDU.
-abbrev pub is_npdu : List ℕ → Bool
-is_npdu o = function_in o == 0x01
 
 -- The Encapsulated-NPDUs among some frames.
 abbrev pub npdus : List Frame → List Frame

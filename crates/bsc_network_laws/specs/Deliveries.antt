@@ -1,16 +1,18 @@
 -- What holds of every network: where each NPDU that is delivered came from.
-use Rattle.std.specs.Prelude.{◌≡◌, ◌≢◌, ◌⊎◌, ℕ, Bool, true, false, List, [], ◌∷◌, ◌++◌, length, map, slice_get, Some, ⊤}
+use Rattle.std.specs.Prelude.{◌≡◌, ◌≢◌, ◌⊎◌, ℕ, false, List, [], ◌∷◌, ◌++◌, length, map, slice_get, Some, ⊤}
 use Rattle.std.specs.List.{AllByRecursion}
 use Rattle.bsc_octets.specs.declared.identity.Identity.{Identity}
 use Rattle.bsc_octets.specs.declared.vmac.Vmac.{Vmac}
-use Rattle.bsc_octets.specs.Addresses.{broadcast}
 use Rattle.bsc_history.specs.declared.call.Call.TheVariants.{Forward}
 use Rattle.bsc_history.specs.declared.connection.Connection.{Connection}
 use Rattle.bsc_history.specs.Ends.{live, numbered}
 use Rattle.bsc_node.specs.declared.link_name.LinkName.TheVariants.{Direct}
-use Rattle.bsc_node.specs.declared.node_event.NodeEvent.TheVariants.{Send}
-use Rattle.bsc_node.specs.Logs.{Line, Log}
+use Rattle.bsc_node.specs.declared.node_event.NodeEvent.TheVariants.{Came, Send}
+use Rattle.bsc_node.specs.Links.{peer}
+use Rattle.bsc_node.specs.Logs.{Line, came, Log}
 use Rattle.bsc_node.specs.Ways.{established_peer}
+use Rattle.bsc_node_identity.specs.Npdus.{IsFor}
+use Rattle.bsc_node_identity.specs.There.{CameUpWith}
 use Rattle.bsc_network.specs.declared.way.Way.{Way}
 use Rattle.bsc_network.specs.declared.target.Target.TheVariants.{Node as ToNode}
 use Rattle.bsc_network.specs.declared.world_step.WorldStep.{WorldStep}
@@ -29,11 +31,6 @@ use Rattle.bsc_network_laws.specs.Ends.{receiver, putter, messages}
 -- At this place of the steps node k sends this NPDU to this address.
 abbrev pub Sends : List TimedStep → ℕ → ℕ → Vmac → List ℕ → Type 0
 Sends steps place k dest npdu = slice_get (map (λ t. t.step) steps) place ≡ Some (OfNode k (Send dest npdu))
-
--- What is for all went to the broadcast, and what is for one to its own address.
-abbrev pub IsFor : Bool → Vmac → Vmac → Type 0
-IsFor true dest own = dest ≡ broadcast
-IsFor false dest own = dest ≡ own
 
 -- one of a list
 abbrev pub IsAmong : {A : Type 0} → List A → A → Type 0
@@ -69,18 +66,32 @@ pub record CameByHub (w : World) (sender : ℕ) (dest : Vmac) (d : WorldDelivery
 
 -- ---- over a direct connection
 
--- At some time this slot of the node was established with this peer, over the link that it hears by this way.
-pub record WasEstablished (n : Node) (l : ℕ) (way : Way) (who : Identity) : Type 0 where
+-- The node sent this NPDU to this address. When the Send came, a slot of the node was established with this peer; the node has the
+-- link as that slot, and hears over it by this way.
+pub record SentOver (n : Node) (dest : Vmac) (npdu : List ℕ) (l : ℕ) (way : Way) (who : Identity) : Type 0 where
   pub slot : ℕ
   pub held : IsAmong n.holds (record { name = Direct slot; link = l; hears = way })
   pub before : Log
+  pub now : ℕ
   pub later : List Line
-  pub log : n.log ≡ before ++ later
+  pub log : n.log ≡ before ++ came (record { now = now; event = Send dest npdu }) ∷ later
   pub established : established_peer slot before ≡ Some who
 
--- It came over a direct connection of the two nodes: by the way on which the sender puts and by which the receiver hears. The
--- sender had it as an established slot with the receiver; the address that is delivered is the sender's, and the destination was
--- the receiver's.
+-- These octets came to the node over a slot. When they came, that slot had come up with this peer over the link that it had then,
+-- and this was the peer of that link; the node has the link as that slot, and hears over it by this way.
+pub record HeardOver (n : Node) (octets : List ℕ) (l : ℕ) (way : Way) (who : Identity) : Type 0 where
+  pub slot : ℕ
+  pub held : IsAmong n.holds (record { name = Direct slot; link = l; hears = way })
+  pub before : Log
+  pub now : ℕ
+  pub later : List Line
+  pub log : n.log ≡ before ++ came (record { now = now; event = Came (Direct slot) octets }) ∷ later
+  pub came_up : CameUpWith before slot who
+  pub met : peer before (Direct slot) ≡ Some who
+
+-- It came over a direct connection of the two nodes: by the way on which the sender puts and by which the receiver hears. When the
+-- sender sent it, the sender's slot there was established with the receiver; when the receiver heard it, the receiver's slot there
+-- had come up with the sender. The address that is delivered is the sender's, and the destination was the receiver's.
 pub record CameDirectly (w : World) (sender : ℕ) (dest : Vmac) (d : WorldDelivery) : Type 0 where
   pub number : ℕ
   pub link : Link
@@ -94,7 +105,8 @@ pub record CameDirectly (w : World) (sender : ℕ) (dest : Vmac) (d : WorldDeliv
   pub to : Node
   pub at_sender : node_at w sender ≡ Some from
   pub at_receiver : node_at w d.node ≡ Some to
-  pub slot : WasEstablished from number (other_way way) to.made.own
+  pub sent : SentOver from dest d.delivered.npdu number (other_way way) to.made.own
+  pub heard : HeardOver to octets number way from.made.own
   pub address : from.made.own.vmac ≡ d.delivered.from
   pub unicast : d.delivered.broadcast ≡ false
   pub destination : dest ≡ to.made.own.vmac

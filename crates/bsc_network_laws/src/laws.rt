@@ -65,7 +65,10 @@ pub fn none_is_delivered_twice()
 
 /// Where what is sent goes to addresses of six octets, a network delivers what was sent. Each delivery comes from the Send at its
 /// place: its node sent that very NPDU, and was connected to a hub under the address that is delivered when the hub passed it
-/// on, or is at the other end of a direct connection over which it came. No two deliveries are of one Send and to one node.
+/// on; or its slot was established with the receiver when it sent, and the receiver's slot at the same link had come up with it
+/// when that heard the message. No two deliveries are of one Send and to one node.
 pub fn networks_deliver_what_was_sent()
     ensures { NetworksDeliverWhatWasSent }
-{}
+{
+    bsc_node_identity::npdus_pass_where_up();
+}

@@ -4,6 +4,7 @@ use Rattle.bsc_outside.specs.Faults.{HasRisen}
 use Rattle.bsc_edge.specs.declared.said.Said.{Said}
 use Rattle.bsc_edge.specs.Told.{Grows, Stays, ToldIs}
 use Rattle.bsc_player.specs.LastLines.{EndsWith, RanOut, SaysOrRunsOut, script_line}
+use Rattle.bsc_frame.specs.Payloads.{IsNode}
 use Rattle.bsc_settings.specs.declared.node.NodeSettings.{NodeSettings}
 use Rattle.bsc_settings.specs.Parts.{node_identity_of, node_times_of}
 use Rattle.bsc_node.specs.declared.node_limits.NodeLimits.{NodeLimits}
@@ -134,7 +135,7 @@ module _ {L W : Type 0} where
   IsUntouched before after = after ≡ record before { written = after.written }
 
 module _ {L W : Type 0} (talk : L → Option (List Said)) (drawn : NodeEvent → W → W → Type 0) where
-  -- A node of the settings to which nothing had come was run, with the lines of the script, and the acceptor is bound by the
+  -- A node of the settings, whose identity is that of a node, and to which nothing had come was run, with the lines of the script, and the acceptor is bound by the
   -- settings. A run that came to its end was a whole run of a node as its definition has it: each event that came to it is
   -- one that may come, what was done is what the definition asks for, and each word that the node drew was drawn there. It
   -- made as many turns as the settings allow at most, and accepts links exactly where they have a port. What the node of that log
@@ -144,6 +145,7 @@ module _ {L W : Type 0} (talk : L → Option (List Said)) (drawn : NodeEvent →
   -- first; and then of 50 ms at most, and no longer than it was, at the turn before, until the next line. What the run wrote stands
   -- before what is written of its end.
   pub record NodeRan (asked : NodeAsked) (before after : NodeWorld L W) (s : ℕ) : Type 0 where
+    pub own : IsNode (node_identity_of asked.settings)
     pub lines : List Due
     pub reads : script_of asked.script ≡ Ok (map wish_of lines)
     pub last : Log

@@ -20,7 +20,7 @@ use bsc_edge::{Acceptor, Clock, Dialer, Failed, Link, Waiter};
 use bsc_node_run::{Due, Halt, NodeParts, RunEnd, RunTerms, ScriptFault, Words, read_script};
 use bsc_outside::Sink;
 use bsc_player::{PlayEnd, end_play, end_with, out_of_memory};
-use bsc_settings::NodeSettings;
+use bsc_settings::{NodeSettings, settings_are_of_nodes};
 use std::alloc::Global;
 
 /// Writes what the end of a run comes to, and gives its status.
@@ -81,6 +81,7 @@ fn run_made<K: Sink, C: Clock, V: Waiter, W: Words, L: Link + Drop, A: Acceptor<
     ensures writes_later { K.faults sink.old ≤ K.faults sink.new }
     ensures links_later { A.faults acceptor.old ≤ A.faults acceptor.new }
 {
+    settings_are_of_nodes(here.settings);
     let mut node = node;
     let listens = here.settings.direct_port.is_some();
     let terms = RunTerms {

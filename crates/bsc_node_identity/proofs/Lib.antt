@@ -8,6 +8,14 @@ pub mod Lines
 pub mod Theirs
 pub mod Followed
 pub mod Settled
+pub mod Bare
+pub mod Holding
+pub mod Held
+pub mod Begun
+pub mod Drawn
+pub mod Rising
+pub mod Risen
+pub mod Puts
 pub mod Events
 pub mod Timely
 pub mod Knowing
@@ -15,4 +23,8 @@ pub mod Waiting
 pub mod Peers
 pub mod Carried
 pub mod Leading
+pub mod Npdus
+pub mod PassedOn
+pub mod OwnOctets
 mod WorkedIdentities
+mod WorkedThere

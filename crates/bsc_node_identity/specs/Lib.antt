@@ -1,3 +1,5 @@
 pub mod Naming
 pub mod Resolving
 pub mod Carried
+pub mod There
+pub mod Npdus

@@ -3,9 +3,12 @@ ghost use Rattle.std.specs.Prelude.{ℕ, List};
 ghost use Rattle.bsc_frame.specs.declared.body.Body.TheVariants.{Npdu, AddressResolutionAck};
 ghost use Rattle.bsc_node.specs.Logs.{Made};
 ghost use Rattle.bsc_node_identity.specs.Naming.{NamesItself, SlotsComeUpAsNamed, SlotsHaveWhoNamedItself, PeersNamedThemselves};
-ghost use Rattle.bsc_node_identity.specs.Naming.{BegunIsNotEstablished, SlotsHaveTheirPeers, ConnectsNameTheirPeer, OthersNameNobody};
+ghost use Rattle.bsc_node_identity.specs.Naming.{BegunIsNotEstablished, SlotsHaveTheirPeers, ConnectsNameTheirPeer};
+ghost use Rattle.bsc_node_identity.specs.Naming.{OthersNameNobody};
 ghost use Rattle.bsc_node_identity.specs.Resolving.{LearnsWhatWasAnswered, TellsItsOwnUris, DialsWhatItKnows};
 ghost use Rattle.bsc_node_identity.specs.Carried.{IsCarriedOn, IsCarriedPlainly, WaysLeadThere};
+ghost use Rattle.bsc_node_identity.specs.There.{ConnectsAreAsBegun, DirectPutsAreThere, EstablishedAreThere, LinksHaveOneVmac};
+ghost use Rattle.bsc_node_identity.specs.There.{NpdusPassWhereUp, PeersStay, StaysANode};
 
 /// A node dials its hubs by the URIs that it was made with, and for direct connections URIs that it has learnt.
 pub fn dials_what_it_knows()
@@ -73,4 +76,39 @@ pub fn uris_are_carried()
 /// The way of a message leads to its destination: over a hub connection with it, or over a slot that is established with it.
 pub fn ways_lead_there()
     ensures { WaysLeadThere }
+{}
+
+/// The link of an established slot is there.
+pub fn established_slots_are_there()
+    ensures { (a : Made) → EstablishedAreThere a }
+{}
+
+/// What a node puts on a direct link goes over one that is there.
+pub fn direct_puts_are_there()
+    ensures { (a : Made) → DirectPutsAreThere a }
+{}
+
+/// A link that is there began with the VMAC that the node has.
+pub fn links_have_one_vmac()
+    ensures { (a : Made) → LinksHaveOneVmac a }
+{}
+
+/// Each Connect-Request and Connect-Accept goes over a link that is there, with the identity that the node had when that began.
+pub fn connects_are_as_begun()
+    ensures { (a : Made) → ConnectsAreAsBegun a }
+{}
+
+/// A message over a direct link that is no Connect-Request and no Connect-Accept leaves its peer as it was.
+pub fn peers_stay()
+    ensures { (a : Made) → PeersStay a }
+{}
+
+/// A node that was made with the identity of a node has such, whatever it drew.
+pub fn stays_a_node()
+    ensures { (a : Made) → StaysANode a }
+{}
+
+/// An NPDU passes over a direct link only where its slot came up over it, with the link's peer.
+pub fn npdus_pass_where_up()
+    ensures { (a : Made) → NpdusPassWhereUp a }
 {}

@@ -25,12 +25,12 @@ use Rattle.bsc_accept.specs.declared.step.Step.TheVariants.{Ask, Put, PutClose, 
 use Rattle.bsc_accept.specs.Messages.{is_farewell_answer, who_asks}
 use Rattle.bsc_accept.specs.Past.{Standing as MachineStanding, awaiting_request, connected as connected_now, disconnecting, phase, phase_named, standing}
 use Rattle.bsc_accept.specs.Steps.{ask_step, message_step, normal, passed_step}
+use Rattle.bsc_port.specs.Guarding.{denied_connect}
 use Rattle.bsc_session.specs.declared.ended.Ended.{Ended}
 use Rattle.bsc_session.specs.declared.stop.Stop.{Stop}
 use Rattle.bsc_session.specs.Answering.{IsHearing, called, calls_hub, denied_in, entries_hearing, forwarded_by, stop_hearing, stop_message}
 use Rattle.bsc_session.specs.Causes.{answer_in, judged_in}
 use Rattle.bsc_session.specs.Course.{EachTurn, TurnGoesOn, all_turns, and_last, entries_of, shares}
-use Rattle.bsc_session.specs.Guarding.{denied_connect}
 use Rattle.bsc_session.specs.Judging.{verdict_on}
 use Rattle.bsc_session.specs.Receiving.{Answer, replies, worn, no_memory, Hearing}
 use Rattle.bsc_session.specs.Standings.{Standing, Terms, begun}

@@ -23,12 +23,12 @@ use Rattle.bsc_accept.specs.declared.step.Step.TheVariants.{Ask, Put, PutClose, 
 use Rattle.bsc_accept.specs.Messages.{is_farewell_answer, who_asks}
 use Rattle.bsc_accept.specs.Past.{Standing as MachineStanding, awaiting_request, connected, disconnecting, phase, standing}
 use Rattle.bsc_accept.specs.Steps.{message_step, normal, passed_step}
+use Rattle.bsc_port.specs.Guarding.{denied_message}
 use Rattle.bsc_session.specs.declared.ended.Ended.{Ended}
 use Rattle.bsc_session.specs.declared.stop.Stop.{Stop}
 use Rattle.bsc_session.specs.Answering.{IsHearing, called, calls_hub, denied_in, entries_hearing, forwarded_by, put_after, stop_hearing, stop_message}
 use Rattle.bsc_session.specs.Causes.{answer_in, given_in}
 use Rattle.bsc_session.specs.Course.{all_turns, entries_of, said_closing, shares}
-use Rattle.bsc_session.specs.Guarding.{denied_message}
 use Rattle.bsc_session.specs.Following.{Tied}
 use Rattle.bsc_session.specs.Judging.{verdict_on}
 use Rattle.bsc_session.specs.Puts.{puts}
@@ -38,8 +38,9 @@ use Rattle.bsc_session.specs.Stops.{first_of, stop_lost}
 use Rattle.bsc_session.specs.Taking.{opened, put_first, stop_before, wait_in}
 use Rattle.bsc_session.specs.Talk.{Session, leaving}
 use Rattle.bsc_session.specs.Turns.{IsHearingIf, IsTurn, Turn, after, entries_after, entries_in, said_after, said_in, stop_after}
+use Rattle.bsc_node_links.specs.Talks.{given_by, given_in as given_by_link}
 use Rattle.bsc_session_laws.specs.Laws.{AreAllBut, IsUnentered}
-use Rattle.bsc_session_laws.specs.Messages.{JudgedMessage, allowed, allowed_by, carried, carried_by, forwarded, forwarded_in, given_by, given_in as given_by_link, message_after, message_by, message_in, messages_of}
+use Rattle.bsc_session_laws.specs.Messages.{JudgedMessage, allowed, allowed_by, carried, carried_by, forwarded, forwarded_in, message_after, message_by, message_in, messages_of}
 use Rattle.bsc_session.proofs.EndingAtFault.{first_none}
 use Rattle.bsc_session.proofs.Hearing.{connected_joined as connected_in}
 use Rattle.bsc_session_laws.proofs.Courses.{all_as, all_but, mapped_shares}

@@ -31,10 +31,11 @@ use Rattle.bsc_accept.specs.declared.step.Step.{Step}
 use Rattle.bsc_accept.specs.declared.step.Step.TheVariants.{Ask, Put, PutClose, Up, Close, Nothing}
 use Rattle.bsc_accept.specs.Past.{Standing as MachineStanding, awaiting_request, connected, disconnecting, standing}
 use Rattle.bsc_accept.specs.Steps.{message_step}
+use Rattle.bsc_port.specs.Guarding.{denied_by, denied_connect, denied_from, denied_message, denied_pair}
 use Rattle.bsc_session.specs.declared.ended.Ended.{Ended}
 use Rattle.bsc_session.specs.Answering.{answered, called, calls_hub, denied_in, forwarded_by, made_at, stands_heard, step_of}
 use Rattle.bsc_session.specs.Course.{EachTurn, all_turns, end_of, entries_of, notes_of, shares, standing as stands_after_all}
-use Rattle.bsc_session.specs.Guarding.{denial_of, denials, denials_by, denied_by, denied_connect, denied_from, denied_message, denied_pair, if_any, let_through, origin}
+use Rattle.bsc_session.specs.Guarding.{denial_of, denials, denials_by, if_any, let_through, origin}
 use Rattle.bsc_session.specs.Following.{Tied}
 use Rattle.bsc_session.specs.Judging.{heard, heard_step, verdict_on}
 use Rattle.bsc_session.specs.Reading.{ticked}

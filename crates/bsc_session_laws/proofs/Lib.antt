@@ -6,5 +6,7 @@ mod Connecting
 mod Owning
 mod Accepting
 mod Guarding
-mod WorkedLaws
+mod Ports
+mod Putting
+pub mod WorkedLaws
 mod WorkedPolicies

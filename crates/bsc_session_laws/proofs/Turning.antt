@@ -26,11 +26,11 @@ use Rattle.bsc_accept.specs.Messages.{connect_accept, who_asks}
 use Rattle.bsc_accept.specs.Past.{Standing as MachineStanding, awaiting_request, connected, disconnecting, is_joined, phase, phase_named, standing}
 use Rattle.bsc_accept.specs.Steps.{asked_id, ask_step, message_step, passed_step, refused_step}
 use Rattle.bsc_accept.proofs.Looking.{standing-more}
+use Rattle.bsc_port.specs.Guarding.{denied_message}
 use Rattle.bsc_session.specs.declared.why.Why.{Why}
 use Rattle.bsc_session.specs.declared.why.Why.TheVariants.{Refused as WhyRefused}
 use Rattle.bsc_session.specs.Answering.{AnswerFits, IsHearing, after_hearing, answered, calls, denied_in, last_wanted, put_unless, said_hearing, stands_heard, stop_hearing, stop_message, step_of}
 use Rattle.bsc_session.specs.Course.{TurnGoesOn}
-use Rattle.bsc_session.specs.Guarding.{denied_message}
 use Rattle.bsc_session.specs.Following.{Tied, has_joined}
 use Rattle.bsc_session.specs.Judging.{heard, verdict_on}
 use Rattle.bsc_session.specs.Puts.{octets_in, puts}

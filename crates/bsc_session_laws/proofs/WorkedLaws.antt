@@ -26,13 +26,13 @@ use Rattle.bsc_session_laws.proofs.Accepting.{frames_follow_accept}
 use Rattle.bsc_session_laws.proofs.Connecting.{connects_are_asked}
 use Rattle.bsc_session_laws.proofs.Owning.{forwards_are_carried}
 
-abbrev talk : List Said
+abbrev pub talk : List Said
 talk = connects ∷ Put accept None ∷ Gave full_wait (Ok (Message to_itself)) ∷ Put back None ∷ Gave full_wait (Ok Closed) ∷ []
 
-abbrev made : List Entry
+abbrev pub made : List Entry
 made = joined_as 1 ∷ forwarded_as 1 1 to_itself Appended ∷ left_as 1 1 2 ∷ []
 
-abbrev over : Ended
+abbrev pub over : Ended
 over = record { why = PeerClosed; conn = Some 1; taken = 1; empties = 2; turns = 3 }
 
 -- the last turn: the frame is put, and then the link is closed
@@ -42,7 +42,7 @@ gets_back = record { opening = record { reading = 0; frames = back ∷ []; met =
 abbrev turns : List Turn
 turns = joins ∷ forwards_to 1 to_itself Appended ∷ gets_back ∷ []
 
-a_hears_itself : Session terms talk (0 ∷ 0 ∷ 0 ∷ []) made (back ∷ []) over
+pub a_hears_itself : Session terms talk (0 ∷ 0 ∷ 0 ∷ []) made (back ∷ []) over
 unfolding verdict_on_literals
 a_hears_itself = told_by terms (record {
   went_on = (joins ∷ forwards_to 1 to_itself Appended ∷ []);

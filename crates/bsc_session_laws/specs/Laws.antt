@@ -11,6 +11,7 @@ use Rattle.bsc_accept.specs.Messages.{connect_accept}
 use Rattle.bsc_edge.specs.declared.incoming.Incoming.TheVariants.{Message}
 use Rattle.bsc_edge.specs.declared.said.Said.{Said}
 use Rattle.bsc_edge.specs.declared.said.Said.TheVariants.{Gave, Put}
+use Rattle.bsc_node_links.specs.Talks.{given_in}
 use Rattle.bsc_session.specs.declared.ended.Ended.{Ended}
 use Rattle.bsc_session.specs.Causes.{last_answer, last_given, last_judged}
 use Rattle.bsc_session.specs.Course.{SessionCourse, all_turns, shares}
@@ -18,7 +19,7 @@ use Rattle.bsc_session.specs.Receiving.{worn, no_memory}
 use Rattle.bsc_session.specs.Standings.{Terms, begun}
 use Rattle.bsc_session.specs.Taking.{full_wait}
 use Rattle.bsc_session.specs.Turns.{Turn, frames_in, said_in}
-use Rattle.bsc_session_laws.specs.Messages.{allowed, asked, carried, connected, forwarded, given_in, messages_of}
+use Rattle.bsc_session_laws.specs.Messages.{allowed, asked, carried, connected, forwarded, messages_of}
 
 -- ---- the messages
 

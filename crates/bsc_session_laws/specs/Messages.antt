@@ -10,11 +10,9 @@ use Rattle.bsc_accept.specs.Messages.{who_asks}
 use Rattle.bsc_edge.specs.declared.fault.LinkFault.{LinkFault}
 use Rattle.bsc_edge.specs.declared.incoming.Incoming.{Incoming}
 use Rattle.bsc_edge.specs.declared.incoming.Incoming.TheVariants.{Message}
-use Rattle.bsc_edge.specs.declared.said.Said.{Said}
-use Rattle.bsc_edge.specs.declared.said.Said.TheVariants.{Gave}
 use Rattle.bsc_lines.specs.declared.denial.Denial.{Denial}
+use Rattle.bsc_port.specs.Guarding.{denied_message}
 use Rattle.bsc_session.specs.Course.{SessionCourse, all_turns, shares}
-use Rattle.bsc_session.specs.Guarding.{denied_message}
 use Rattle.bsc_session.specs.Judging.{verdict_on}
 use Rattle.bsc_session.specs.Receiving.{Hearing}
 use Rattle.bsc_session.specs.Standings.{Standing, Terms, begun}
@@ -46,14 +44,6 @@ message_in v s t = message_after v (opened s t.opening) t.hearing
 -- The messages of all turns, in order.
 abbrev pub messages_of : {v : Terms} → SessionCourse v → List JudgedMessage
 messages_of {v} c = shares message_in v begun (all_turns c)
-
--- the messages that the link gave, by the talk alone
-abbrev pub given_by : Said → List (List ℕ)
-given_by (Gave wait (Ok (Message m))) = m ∷ []
-given_by said = []
-
-abbrev pub given_in : List Said → List (List ℕ)
-given_in T = flat_map given_by T
 
 -- ---- what was to be done about them
 

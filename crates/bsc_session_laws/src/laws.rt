@@ -3,10 +3,13 @@ ghost use Rattle.std.specs.Prelude.{ℕ, List};
 ghost use Rattle.bsc_history.specs.declared.entry.Entry.{Entry};
 ghost use Rattle.bsc_edge.specs.declared.said.Said.{Said};
 ghost use Rattle.bsc_session.specs.declared.ended.Ended.{Ended};
-ghost use Rattle.bsc_session.specs.Standings.{Terms};
+ghost use Rattle.bsc_port.specs.declared.event.PortEvent.{PortEvent};
+ghost use Rattle.bsc_session.specs.Standings.{Standing, Terms};
 ghost use Rattle.bsc_session.specs.Talk.{Session, journal_of};
 ghost use Rattle.bsc_session_laws.specs.Laws.{ConnectsAreAsked, ForwardsAreCarried, FramesFollowAccept, MessagesAreGiven};
+ghost use Rattle.bsc_session_laws.specs.Npdus.{NpdusAreTaken};
 ghost use Rattle.bsc_session_laws.specs.Policies.{PolicyIsFollowed};
+ghost use Rattle.bsc_session_laws.specs.Ports.{FollowsEvent, FollowsPort};
 
 /// The messages of a session that are judged are those that its link gave, in order.
 pub fn messages_are_given()
@@ -42,4 +45,19 @@ pub fn frames_follow_accept()
 pub fn policy_is_followed()
     ensures { (v : Terms) (T : List Said) (R : List ℕ) (E : List Entry) (frames : List (List ℕ)) (ended : Ended) →
         (x : Session v T R E frames ended) → PolicyIsFollowed v T E frames (journal_of x) x.course }
+{}
+
+/// The Encapsulated-NPDUs that a session puts are those of its frames that its policy lets through, in order, each once.
+pub fn npdus_are_taken()
+    ensures { (v : Terms) (T : List Said) (R : List ℕ) (E : List Entry) (frames : List (List ℕ)) (ended : Ended) →
+        (x : Session v T R E frames ended) → NpdusAreTaken v T frames x.course }
+{
+    policy_is_followed();
+}
+
+/// Whatever is fixed of a session and wherever it stands, it does what its port does, by the definition of `bsc_port`: the hub's
+/// side of a link in a simulated network is by the same one.
+pub fn sessions_follow_ports()
+    ensures messages { (v : Terms) (s : Standing) (now : ℕ) (m : List ℕ) → FollowsPort v s now m }
+    ensures events { (v : Terms) (s : Standing) (e : PortEvent) → FollowsEvent v s e }
 {}

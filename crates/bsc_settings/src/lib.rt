@@ -14,6 +14,7 @@ mod hub_table;
 mod key;
 mod known;
 mod known_policy;
+mod laws;
 mod naming;
 mod node;
 mod node_parts;
@@ -36,6 +37,7 @@ pub use bounds::{GREATEST_MS, LEAST_MS, MAX_GROUP_LEN, MOST_TURNS, RECONNECT_MS}
 pub use fault::SettingFault;
 pub use hub::HubSettings;
 pub use key::KeyName;
+pub use laws::{settings_are_of_nodes, times_are_of_100_ms_to_an_hour};
 pub use node::NodeSettings;
 pub use reading::{read_settings, refusal_of};
 pub use refusal::{EntryFault, PolicyRefusal};

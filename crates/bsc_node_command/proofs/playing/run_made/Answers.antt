@@ -29,6 +29,7 @@ returns-clause-ran g c script door port faults reads unasked bound =
     let defined = by_definition talk drawn v script lines old.node new.node old.parts.now.random new.parts.random end before after (admitting A.left A.came A.waits old.acceptor.now) (admitting A.left A.came A.waits new.acceptor)
     (C.readings old.clock.now) (C.readings new.clock) (K.held old.sink.now) (K.held new.sink) reads c.requires run in
     record {
+      own = c.settings_are_of_nodes.ensures;
       lines = lines;
       reads = reads;
       last = defined.0;

@@ -1,0 +1,11 @@
+pub mod Outboxes
+pub mod Hubs
+pub mod Passing
+pub mod Nodes
+pub mod Networks
+pub mod Wires
+pub mod Deliveries
+pub mod Connecting
+pub mod Serving
+pub mod Running
+pub mod Reached

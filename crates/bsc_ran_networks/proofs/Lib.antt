@@ -1,0 +1,2 @@
+mod Networks
+mod Wires
