@@ -1,10 +1,12 @@
 -- What a worker does from its receiver's connect to its receiver's leave.
-use Rattle.std.proofs.Common.{◌≡◌, ◌≤◌, ◌<◌, ◌+◌, inr, ℕ, List, [], ◌∷◌, ◌++◌, length, take, Result, Ok, Err, ap, sym, ◌∙◌, arith, append-nil, length-append}
+use Rattle.std.proofs.Common.{◌≡◌, ◌≤◌, ◌<◌, ◌+◌, inr, ℕ, List, [], ◌∷◌, ◌++◌, length, take, Result, Ok, Err, refl, ap, sym, ◌∙◌, arith, append-nil, length-append}
 use Rattle.std.proofs.lemmas.List.{length-map, map-append}
+use Rattle.std.proofs.lemmas.List.Elements.{Contains-push}
 use Rattle.bsc_octets.specs.declared.identity.Identity.{Identity}
 use Rattle.bsc_history.specs.declared.call.Call.{Call}
 use Rattle.bsc_history.specs.declared.call.Call.TheVariants.{Connect, Leave}
 use Rattle.bsc_history.specs.declared.connection.Connection.{Connection}
+use Rattle.bsc_history.specs.declared.ending.End.{End}
 use Rattle.bsc_history.specs.declared.entry.Entry.{Entry}
 use Rattle.bsc_history.specs.declared.reply.Reply.TheVariants.{Joined as JoinedReply}
 use Rattle.bsc_history.specs.declared.told.Told.{Told}
@@ -13,7 +15,7 @@ use Rattle.bsc_history.specs.Marks.{entries}
 use Rattle.bsc_history.specs.Outboxes.{sent}
 use Rattle.bsc_history.specs.Replies.{numbers}
 use Rattle.bsc_ring.specs.declared.ends.Outlet.{Outlet}
-use Rattle.bsc_ring.specs.Ends.{empties_of, given, outlet_mark}
+use Rattle.bsc_ring.specs.Ends.{FoundEnd, empties_of, given, outlet_mark}
 use Rattle.bsc_turn.specs.declared.pass.Pass.{Pass}
 use Rattle.bsc_turn.specs.Histories.{StartsWith}
 use Rattle.bsc_turn.specs.Passes.{number_of, seen}
@@ -33,6 +35,7 @@ use Rattle.bsc_load.specs.Peers.{receiver, sender}
 use Rattle.bsc_load.specs.Workers.{calls, forwards}
 use Rattle.bsc_load.proofs.Addresses.{connections_differ}
 use Rattle.bsc_load.proofs.Calls.{first_forwards, length_forwards}
+use Rattle.bsc_load.proofs.Emptying.{emptied_each}
 use Rattle.bsc_load.proofs.Going.{goes_one, goes_then, holds_by}
 use Rattle.bsc_history.proofs.Common.{joined-append}
 use Rattle.bsc_hub.proofs.Guarding.{longer}
@@ -85,8 +88,9 @@ pub after_both : (h : Hub) (i s : ℕ) (p m n q : Pass) (j : Joined) (o : Outlet
     RanAll h i s m n o result →
     Passed h n [] (leave_made (number_of n) j.conn (empties_of o) told) q →
     told.said.taken ≡ length (given o) → given o ≡ take told.said.taken (sent (about_of h) (entries (seen q)) j.conn) →
+    ((e : End) → FoundEnd o e → told.said.ending ≡ e) →
     AfterBoth h i s p q result
-after_both h i s p m n q j o told (Ok octets) small is mine came its ran left many gave =
+after_both h i s p m n q j o told (Ok octets) small is mine came its ran left many gave ends =
     let f = ran.0 in
     let E = f.made in
     let mid : IsOwnAs m s (sender i).vmac = holds_by h p m (connect_made (number_of p) (receiver i) (Ok j)) is came (connect_stays (number_of p) (receiver i) (Ok j)) s (sender i).vmac mine in
@@ -103,8 +107,9 @@ after_both h i s p m n q j o told (Ok octets) small is mine came its ran left ma
       many = sym many;
       first = gave ∙ ap (λ k. take k (sent (about_of h) (entries (seen q)) j.conn)) many;
       counted = ran.1;
+      emptied = emptied_each (join_entry p (receiver i) j ∷ E ++ leave_entry n j.conn o told ∷ []) 1000 j.conn o told.said (leave_entry n j.conn o told) ran.2 ends (Contains-push (join_entry p (receiver i) j ∷ E) (leave_entry n j.conn o told)) refl refl;
     }
-after_both h i s p m n q j o told (Err cut) small is mine came its ran left many gave =
+after_both h i s p m n q j o told (Err cut) small is mine came its ran left many gave ends =
     let f = ran.2 in
     let E = f.made in
     let mid : IsOwnAs m s (sender i).vmac = holds_by h p m (connect_made (number_of p) (receiver i) (Ok j)) is came (connect_stays (number_of p) (receiver i) (Ok j)) s (sender i).vmac mine in
@@ -119,6 +124,11 @@ after_both h i s p m n q j o told (Err cut) small is mine came its ran left many
       goes = goes_between h p m n q E (receiver i) j j.conn o told came f.goes left;
       owns = owns_between h i s n q j.conn o told small f.goes.caller (f.holds s (sender i).vmac mid) (f.holds j.conn (receiver i).vmac its) left;
       shows = cut_shows h n q ran.0 E (join_entry p (receiver i) j) (leave_entry n j.conn o told) cut ran.1 (few_made i s ran.0 E f.calls) (longer (seen n) (seen q) left.grows) ran.3;
+      emptied =
+          let least : ran.0 ≤ 1000 = omega (arith, ran.1) in (
+            least,
+            emptied_each (join_entry p (receiver i) j ∷ E ++ leave_entry n j.conn o told ∷ []) ran.0 j.conn o told.said (leave_entry n j.conn o told) ran.4 ends (Contains-push (join_entry p (receiver i) j ∷ E) (leave_entry n j.conn o told)) refl refl,
+          );
     }
 
 -- the pass after the forwards, whatever they came to

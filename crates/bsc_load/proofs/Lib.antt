@@ -4,6 +4,7 @@ pub mod Going
 pub mod Addresses
 pub mod Forwarding
 pub mod Unjoined
+pub mod Emptying
 pub mod Both
 pub mod Running
 pub mod Passing

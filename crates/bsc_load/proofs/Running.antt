@@ -27,6 +27,7 @@ use Rattle.bsc_load.specs.Peers.{receiver, sender}
 use Rattle.bsc_load.specs.Workers.{IsPart, IsWholeWorker, calls, calls_up_to, forwards}
 use Rattle.bsc_load.proofs.Both.{calls_between, goes_between, join_entry, joined_between, leave_entry, length_between}
 use Rattle.bsc_load.proofs.Calls.{first_forwards}
+use Rattle.bsc_load.proofs.Emptying.{emptied_more, emptied_part}
 use Rattle.bsc_load.proofs.Unjoined.{first_later}
 use Rattle.bsc_hub.proofs.Guarding.{longer}
 
@@ -69,6 +70,7 @@ part_of_whole i E r taken w = record {
       let ends = Leave r taken w.empties ∷ Leave w.sender 0 0 ∷ [] in
       w.calls ∙ ap (λ (k : List Call). Connect (sender i) ∷ Connect (receiver i) ∷ k ++ ends) (first_forwards i w.sender 1000 (omega arith));
   joined = w.joined;
+  emptied = (omega arith, w.emptied);
 }
 
 pub after_run : (h : Hub) (i : ℕ) (p m n q : Pass) (j : Joined) (o : Outlet) (told : Told Gone) (result : Result ℕ Cut) →
@@ -94,6 +96,7 @@ after_run h i p m n q j o told (Ok octets) came b new left many =
               outer_calls E (C ++ y ∷ []) e l (Connect (sender i)) j.conn told.said.taken (empties_of o) refl refl (many ∙ ap (λ (x : List (List ℕ)). length x) new.0) new.1 b.calls
               ∙ whole_calls C (Connect (sender i)) y (Leave j.conn 0 0);
           joined = ap numbers (joined_between E p n (sender i) j j.conn o told) ∙ ap (λ (x : List ℕ). j.conn ∷ x) b.joined;
+          emptied = emptied_more E e l 1000 b.conn b.taken b.empties b.emptied;
         };
         many = b.many;
         first = first_later (about_of h) (seen n) (seen q) b.conn b.frames left.grows b.first;
@@ -116,6 +119,7 @@ after_run h i p m n q j o told (Err cut) came b new left many =
               outer_calls E (inner_calls i j.conn b.who b.more b.taken b.empties) e l (Connect (sender i)) j.conn told.said.taken (empties_of o) refl refl (many ∙ ap (λ (x : List (List ℕ)). length x) new.0) new.1 b.calls
               ∙ cut_calls i j.conn b.who b.more b.taken b.empties;
           joined = ap numbers (joined_between E p n (sender i) j j.conn o told) ∙ ap (λ (x : List ℕ). j.conn ∷ x) b.joined;
+          emptied = emptied_part E e l j.conn b.who b.more b.taken b.empties b.emptied;
         },
         more_shows h (seen n) (seen q) E e l cut (longer (seen n) (seen q) left.grows) b.shows,
       ),

@@ -106,6 +106,7 @@ both_unjoined h i s p q cut owns u =
       goes = u.goes;
       owns = u.holds s (sender i).vmac owns;
       shows = shows_more h 1 1002 (seen q) u.made cut (omega arith) u.shows;
+      emptied = tt;
     }
 
 -- a sender that didn't join
@@ -115,7 +116,7 @@ runs_unjoined h i p q cut u =
       u.made,
       u.goes,
       (
-        record { who = []; more = asked.0; taken = 0; empties = 0; calls = asked.2; joined = ap numbers u.quiet },
+        record { who = []; more = asked.0; taken = 0; empties = 0; calls = asked.2; joined = ap numbers u.quiet; emptied = tt },
         shows_more h 1 1004 (seen q) u.made cut (omega arith) u.shows,
       ),
     )

@@ -1,5 +1,5 @@
 -- What the inner functions of a workload say of each other; no public clause cites any of it.
-use Rattle.std.specs.Prelude.{◌≡◌, ◌⊎◌, ◌≤◌, ◌<◌, ◌↔◌, ℕ, ◌+◌, ◌-◌, ◌^◌, min, nat_lt, true, false, if◌then◌else◌, IsTrue, ⊤}
+use Rattle.std.specs.Prelude.{◌≡◌, ◌≢◌, ◌⊎◌, ◌≤◌, ◌<◌, ◌↔◌, ℕ, ◌+◌, ◌-◌, ◌^◌, min, nat_lt, true, false, if◌then◌else◌, IsTrue, ⊤}
 use Rattle.std.specs.Prelude.{List, [], ◌∷◌, ◌++◌, length, map, take, count_by, position, Some, None, Result, Ok, Err, IfOk, IfErr, IsErr}
 use Rattle.std.specs.List.{AllByRecursion, list_any, range_with_len}
 use Rattle.bsc_octets.specs.declared.identity.Identity.{Identity}
@@ -7,6 +7,8 @@ use Rattle.bsc_octets.specs.declared.vmac.Vmac.{Vmac}
 use Rattle.bsc_history.specs.declared.call.Call.{Call}
 use Rattle.bsc_history.specs.declared.call.Call.TheVariants.{Connect, Forward, Leave}
 use Rattle.bsc_history.specs.declared.counts.Counts.{Counts}
+use Rattle.bsc_history.specs.declared.ending.End.{End}
+use Rattle.bsc_history.specs.declared.ending.End.TheVariants.{Left}
 use Rattle.bsc_history.specs.declared.entry.Entry.{Entry}
 use Rattle.bsc_history.specs.declared.limits.About.{About}
 use Rattle.bsc_history.specs.declared.mark.Stamped.{Stamped}
@@ -20,7 +22,7 @@ use Rattle.bsc_history.specs.Marks.{entries}
 use Rattle.bsc_history.specs.Outboxes.{sent}
 use Rattle.bsc_history.specs.Replies.{is_stopped, numbers}
 use Rattle.bsc_ring.specs.declared.ends.Outlet.{Outlet}
-use Rattle.bsc_ring.specs.Ends.{given}
+use Rattle.bsc_ring.specs.Ends.{FoundEnd, empties_of, given}
 use Rattle.bsc_turn.specs.declared.pass.Pass.{Pass}
 use Rattle.bsc_turn.specs.Histories.{StartsWith}
 use Rattle.bsc_turn.specs.Passes.{ended_callers, loads_made, newest_number, number_of, own_list, seen}
@@ -42,11 +44,20 @@ use Rattle.bsc_load.specs.declared.jobs.Work.{Work}
 use Rattle.bsc_load.specs.Frames.{frame, npdu_octets}
 use Rattle.bsc_load.specs.Load.{Loads, ShowsCut, Worker, WorksPart, WorksWhole, all_octets}
 use Rattle.bsc_load.specs.Peers.{receiver, sender}
-use Rattle.bsc_load.specs.Workers.{IsPart, IsWholeWorker, calls, forwards, within_64_bits}
+use Rattle.bsc_load.specs.Workers.{EmptiedEachTime, IsPart, IsWholeWorker, calls, forwards, within_64_bits}
 
 -- the octets of NPDU that an outlet gave are so many
 abbrev pub IsCounted : Outlet → ℕ → Type 0
 IsCounted o octets = octets ≡ within_64_bits (npdu_octets (given o))
+
+-- an outlet was taken from n times, each time until it was empty or closed: it was found empty n times, or fewer times, and
+-- then an End was found that no leave set
+abbrev pub Emptied : ℕ → Outlet → Type 0
+Emptied n o = (empties_of o ≡ n) ⊎ ((empties_of o < n) × ((e : End) × FoundEnd o e × (e ≢ Left)))
+
+-- it was so taken from once more, as often as a number of 64 bits counts
+abbrev pub EmptiedOnce : Outlet → Outlet → Type 0
+EmptiedOnce o p = (n : ℕ) → n < 2 ^ 64 - 1 → Emptied n o → Emptied (n + 1) p
 
 -- The pass went on, and its own list grew by these. It asked for no number.
 pub record WorkerGoes (h : Hub) (p : Pass) (E : List Entry) (q : Pass) : Type 0 where
@@ -84,10 +95,10 @@ pub record RanForwards (h : Hub) (i s n : ℕ) (p q : Pass) : Type 0 where
   pub goes : WorkerGoes h p made q
   pub holds : KeepsOwn p q
 
--- all forwards
+-- all forwards, each with what was taken after it
 abbrev pub RanAll : Hub → ℕ → ℕ → Pass → Pass → Outlet → Result ℕ Cut → Type 0
-RanAll h i s p q o (Ok octets) = RanForwards h i s 1000 p q × IsCounted o octets
-RanAll h i s p q o (Err cut) = (n : ℕ) × (n < 1000) × RanForwards h i s n p q × LoadWasWorn h q cut
+RanAll h i s p q o (Ok octets) = RanForwards h i s 1000 p q × IsCounted o octets × Emptied 1000 o
+RanAll h i s p q o (Err cut) = (n : ℕ) × (n < 1000) × RanForwards h i s n p q × LoadWasWorn h q cut × Emptied n o
 
 -- the sign of a worker that was cut short, but for want of memory, by its entries, which are fewer than so many
 abbrev pub ShowsBy : ℕ → Hub → List Stamped → List Entry → Cut → Type 0
@@ -127,12 +138,18 @@ pub record RanBoth (h : Hub) (i s : ℕ) (p q : Pass) (octets : ℕ) : Type 0 wh
   pub many : length frames ≡ taken
   pub first : AreFirst (about_of h) (seen q) conn frames
   pub counted : octets ≡ within_64_bits (npdu_octets frames)
+  pub emptied : EmptiedEachTime made 1000 conn taken empties
 
 -- what a worker that was cut short calls between its sender's connect and its sender's leave, by its receiver's connection,
 -- where that joined
 abbrev pub inner_calls : ℕ → ℕ → List ℕ → ℕ → ℕ → ℕ → List Call
 inner_calls i s [] n taken empties = take n (Connect (receiver i) ∷ [])
 inner_calls i s (r ∷ others) n taken empties = Connect (receiver i) ∷ take n (forwards i s 1000) ++ Leave r taken empties ∷ []
+
+-- and what was taken from the receiver's outlet in between
+abbrev pub InnerEmptied : List Entry → List ℕ → ℕ → ℕ → ℕ → Type 0
+InnerEmptied E [] n taken empties = ⊤
+InnerEmptied E (r ∷ others) n taken empties = (n ≤ 1000) × EmptiedEachTime E n r taken empties
 
 -- the first of it
 pub record CutBoth (h : Hub) (i s : ℕ) (p q : Pass) (cut : Cut) : Type 0 where
@@ -146,6 +163,7 @@ pub record CutBoth (h : Hub) (i s : ℕ) (p q : Pass) (cut : Cut) : Type 0 where
   pub goes : WorkerGoes h p made q
   pub owns : IsOwnAs q s (sender i).vmac
   pub shows : ShowsBy 1002 h (seen q) made cut
+  pub emptied : InnerEmptied made who more taken empties
 
 abbrev pub AfterBoth : Hub → ℕ → ℕ → Pass → Pass → Result ℕ Cut → Type 0
 AfterBoth h i s p q (Ok octets) = RanBoth h i s p q octets

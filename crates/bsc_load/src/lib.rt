@@ -20,6 +20,6 @@ mod workload;
 
 pub use bounds::{OUTBOX, ROWS, WORKERS};
 pub use ends::{LoadEnd, LoadStop};
-pub use laws::appended_is_sent;
+pub use laws::{appended_is_sent, the_hub_has_1024_rows};
 pub use loading::load;
 pub use workload::load_on;

@@ -1,7 +1,7 @@
 //! What a worker takes from its receiver's outlet.
 ghost use Rattle.std.specs.Prelude.{◌≡◌, ◌-◌, length};
 ghost use Rattle.bsc_ring.specs.Ends.{given, outlet_mark};
-ghost use Rattle.bsc_load.specs.Inner.{IsCounted};
+ghost use Rattle.bsc_load.specs.Inner.{EmptiedOnce, IsCounted};
 
 use bsc_ring::{Outlet, Take};
 use std::sync::Wait;
@@ -18,6 +18,7 @@ pub(crate) fn take_all<R: Wait>(rt: &R, outlet: &mut Outlet, octets: u64) -> u64
     requires { IsCounted outlet.old octets }
     ensures counted { IsCounted outlet.new result }
     ensures mark { outlet_mark outlet.new ≡ outlet_mark outlet.old }
+    ensures emptied { EmptiedOnce outlet.old outlet.new }
 {
     let mut octets = octets;
     for _ in rt.forever() {

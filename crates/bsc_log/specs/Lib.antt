@@ -1,7 +1,9 @@
 pub mod Asking
 pub mod Batches
+pub mod Causes
 pub mod Courses
 pub mod Fields
+pub mod Following
 pub mod Lines
 pub mod Logged
 pub mod Stamps

@@ -1,8 +1,8 @@
 //! Who asks to join.
-ghost use Rattle.std.specs.Prelude.{◌≡◌, IfSome};
-ghost use Rattle.bsc_octets.specs.Identities.{identity_octets};
+ghost use Rattle.std.specs.Prelude.{◌≡◌, None, IfSome, length};
+ghost use Rattle.bsc_octets.specs.Identities.{identity_octets, identity_of};
 ghost use Rattle.bsc_frame.specs.Payloads.{IsNode};
-ghost use Rattle.bsc_log.specs.Asking.{Asks};
+ghost use Rattle.bsc_log.specs.Asking.{Asks, AsksPlainly};
 
 use bsc_frame::{Body, read};
 use bsc_octets::{Identity, Vmac, function, read_identity};
@@ -16,7 +16,8 @@ const PAYLOAD: usize = 26;
 
 /// Who connects, where a payload says that of a node.
 fn node_in(p: &[u8]) -> Option<Identity>
-    ensures { IfSome result (λ who. IsNode who × (identity_octets who ≡ p.now)) }
+    ensures found { IfSome result (λ who. IsNode who × (identity_octets who ≡ p.now)) }
+    ensures none { result ≡ None → length p.now ≡ 26 → ¬ IsNode (identity_of p.now) }
 {
     if p.len() != PAYLOAD {
         return None;
@@ -33,7 +34,8 @@ fn node_in(p: &[u8]) -> Option<Identity>
 
 /// Who asks to join by these octets, if they are a Connect-Request without addresses and options, as nearly all are.
 fn plain_asker(m: &[u8]) -> Option<Identity>
-    ensures { IfSome result (λ who. Asks m.now who) }
+    ensures found { IfSome result (λ who. Asks m.now who) }
+    ensures none { result ≡ None → ¬ AsksPlainly m.now }
 {
     if m.len() != HEAD + PAYLOAD {
         return None;
@@ -64,7 +66,9 @@ fn any_asker(alloc: Global, m: &[u8]) -> Option<Identity>
 
 /// Who asks to join by these octets, if they are a Connect-Request.
 pub(crate) fn asker_in(alloc: Global, m: &[u8]) -> Option<Identity>
-    ensures { IfSome result (λ who. Asks m.now who) }
+    ensures found { IfSome result (λ who. Asks m.now who) }
+    // A plain one is always known.
+    ensures none { result ≡ None → ¬ AsksPlainly m.now }
 {
     match plain_asker(m) {
         Some(who) => Some(who),

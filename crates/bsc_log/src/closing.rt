@@ -1,56 +1,50 @@
 //! What a closing says of a link.
-ghost use Rattle.std.specs.Prelude.{◌≡◌, ◌≢◌};
-ghost use Rattle.bsc_log.specs.declared.event.Event.{Event};
-ghost use Rattle.bsc_log.specs.declared.stage.Stage.{Stage};
+ghost use Rattle.std.specs.Prelude.{◌≡◌};
+ghost use Rattle.bsc_log.specs.Causes.{at_code, by_code, closed, closed_at, left, parted, peer_closed_at, unjoined, unjoined_by_code};
 
 use crate::event::{Cause, Event, Refusal};
 use crate::stage::Stage;
+use bsc_accept::Reason;
 
-/// Why a link ended that the hub asked to leave, where nothing failed.
-pub(crate) fn parted(is_taken: bool) -> Cause {
-    if is_taken {
-        Cause::Replaced
-    } else {
-        Cause::Disconnected
-    }
+/// The first event where the close code is this one, and else the other.
+fn at_code(own: u16, code: u16, event: Event, other: Event) -> Event
+    ensures { result ≡ at_code own code event other }
+{
+    if code == own { event } else { other }
 }
 
-/// Why the hub closed a link for a rule that it keeps.
-fn cause_by(reason: &str) -> Cause {
-    if reason == "connect wait" {
-        return Cause::ConnectWait;
-    }
-    if reason == "idle" {
-        return Cause::Idle;
-    }
-    if reason == "outbox full" {
-        return Cause::OutboxFull;
-    }
-    if reason == "hub worn" {
-        return Cause::HubWorn;
-    }
-    Cause::Other
-}
-
-/// Why the hub closed a link that was neither refused nor denied.
-fn cause_of(code: u16, reason: &str) -> Cause {
+/// What a closing without a reason says.
+fn by_code(code: u16) -> Event
+    ensures { result ≡ by_code code }
+{
     match code {
-        1000 => Cause::PeerLeft,
-        1001 => Cause::Spent,
-        1003 => Cause::TextMessage,
-        1008 => cause_by(reason),
-        1011 => if reason.is_empty() {
-            Cause::JournalFault
-        } else {
-            Cause::NoMemory
-        },
-        _ => Cause::Other,
+        1000 => Event::Ended(Cause::PeerLeft),
+        1001 => Event::Ended(Cause::Spent),
+        1003 => Event::Ended(Cause::TextMessage),
+        1011 => Event::Ended(Cause::JournalFault),
+        _ => Event::Ended(Cause::Other),
     }
 }
 
-/// What a closing says of a link that hasn't joined, of which a Connect-Request waits for its answer or not.
-fn unjoined(code: u16, reason: &str, has_asked: bool) -> Event
-    ensures { result ≢ Event.NoSession }
+/// What a closing says of a link that has joined.
+fn closed(code: u16, reason: Option<Reason>) -> Event
+    ensures { result ≡ closed code reason }
+{
+    let other = Event::Ended(Cause::Other);
+    match reason {
+        Some(Reason::Nothing) => by_code(code),
+        Some(Reason::ConnectWait) => at_code(1008, code, Event::Ended(Cause::ConnectWait), other),
+        Some(Reason::Idle) => at_code(1008, code, Event::Ended(Cause::Idle), other),
+        Some(Reason::OutboxFull) => at_code(1008, code, Event::Ended(Cause::OutboxFull), other),
+        Some(Reason::HubWorn) => at_code(1008, code, Event::Ended(Cause::HubWorn), other),
+        Some(Reason::NoMemory) => at_code(1011, code, Event::Ended(Cause::NoMemory), other),
+        Some(Reason::TableFull) | Some(Reason::WrongPeer) | Some(Reason::Policy) | None => other,
+    }
+}
+
+/// What a closing without a reason says of a link that hasn't joined, of which a Connect-Request waits for its answer or not.
+fn unjoined_by_code(code: u16, has_asked: bool) -> Event
+    ensures { result ≡ unjoined_by_code code has_asked }
 {
     if code == 1000 {
         return Event::Refused(Refusal::DuplicateVmac);
@@ -58,34 +52,74 @@ fn unjoined(code: u16, reason: &str, has_asked: bool) -> Event
     if code == 1001 && has_asked {
         return Event::Refused(Refusal::Stopped);
     }
-    if code == 1008 && reason == "table full" {
-        return Event::Refused(Refusal::TableFull);
-    }
-    if code == 1008 && reason == "policy" {
-        return Event::Denied;
-    }
-    Event::Ended(cause_of(code, reason))
+    by_code(code)
 }
 
-/// Why a link ended that the hub asked to leave.
-fn left(code: u16, reason: &str, is_taken: bool) -> Cause {
+/// What a closing says of a link that hasn't joined.
+fn unjoined(code: u16, reason: Option<Reason>, has_asked: bool) -> Event
+    ensures { result ≡ unjoined code reason has_asked }
+{
+    let other = Event::Ended(Cause::Other);
+    match reason {
+        Some(Reason::Nothing) => unjoined_by_code(code, has_asked),
+        Some(Reason::TableFull) => at_code(1008, code, Event::Refused(Refusal::TableFull), other),
+        Some(Reason::Policy) => at_code(1008, code, Event::Denied, other),
+        Some(Reason::HubWorn)
+        | Some(Reason::ConnectWait)
+        | Some(Reason::Idle)
+        | Some(Reason::OutboxFull)
+        | Some(Reason::NoMemory)
+        | Some(Reason::WrongPeer)
+        | None => closed(code, reason),
+    }
+}
+
+/// The end of a link that the hub asked to leave, where nothing failed.
+fn parted(is_taken: bool) -> Event
+    ensures { result ≡ parted is_taken }
+{
+    if is_taken {
+        Event::Ended(Cause::Replaced)
+    } else {
+        Event::Ended(Cause::Disconnected)
+    }
+}
+
+/// What a closing says of a link that the hub asked to leave.
+fn left(code: u16, reason: Option<Reason>, is_taken: bool) -> Event
+    ensures { result ≡ left code reason is_taken }
+{
     if code == 1001 || code == 1011 {
-        cause_of(code, reason)
+        closed(code, reason)
     } else {
         parted(is_taken)
     }
 }
 
 /// What a closing says of a link that is so far.
-pub(crate) fn event_at(stage: Stage, code: u16, reason: &str, is_taken: bool) -> Event
-    ensures unserved { stage ≡ Stage.Silent → result ≡ Event.NoSession }
-    ensures served { result ≡ Event.NoSession → stage ≡ Stage.Silent }
+pub(crate) fn closed_at(stage: Stage, code: u16, reason: Option<Reason>, is_taken: bool) -> Event
+    ensures { result ≡ closed_at stage code reason is_taken }
 {
     match stage {
         Stage::Silent => Event::NoSession,
         Stage::Waiting => unjoined(code, reason, false),
         Stage::Asked => unjoined(code, reason, true),
-        Stage::Leaving => Event::Ended(left(code, reason, is_taken)),
-        Stage::Introduced | Stage::Joined | Stage::Over => Event::Ended(cause_of(code, reason)),
+        Stage::Leaving => left(code, reason, is_taken),
+        Stage::Introduced | Stage::Joined | Stage::Over => closed(code, reason),
+    }
+}
+
+/// What it says of a link that is so far that its peer closed it.
+pub(crate) fn peer_closed_at(stage: Stage, is_taken: bool) -> Event
+    ensures { result ≡ peer_closed_at stage is_taken }
+{
+    match stage {
+        Stage::Leaving => parted(is_taken),
+        Stage::Silent
+        | Stage::Waiting
+        | Stage::Asked
+        | Stage::Introduced
+        | Stage::Joined
+        | Stage::Over => Event::Ended(Cause::PeerClosed),
     }
 }

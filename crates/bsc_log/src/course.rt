@@ -1,13 +1,17 @@
 //! What is known of a link so far.
-ghost use Rattle.std.specs.Prelude.{◌≡◌, ◌≢◌, None, Some, false, true};
-ghost use Rattle.bsc_log.specs.Courses.{counted, heard_at, hushed_at};
+ghost use Rattle.std.specs.Prelude.{◌≡◌, None, is_some};
+ghost use Rattle.bsc_log.specs.Causes.{closed_at, peer_closed_at};
+ghost use Rattle.bsc_log.specs.Courses.{asks_to_leave, ended, heard, heard_at, hushed, hushed_at, introduced, may_join, newest, once, put, put_at, takeover, woken};
+ghost use Rattle.bsc_log.specs.Following.{told_of};
+ghost use Rattle.bsc_log.specs.declared.event.Cause.{Cause};
 ghost use Rattle.bsc_log.specs.declared.event.Event.{Event};
 ghost use Rattle.bsc_log.specs.declared.stage.Stage.{Stage};
 
-use crate::closing::{event_at, parted};
+use crate::closing::{closed_at, peer_closed_at};
 use crate::event::{Cause, Event};
 use crate::stage::Stage;
 use crate::told::Told;
+use bsc_accept::Reason;
 use bsc_octets::{Identity, function};
 use std::time::Duration;
 
@@ -30,7 +34,9 @@ pub(crate) struct Course {
 
 /// Whether these octets are a Disconnect-Request of the hub's own: what it passes on has an Originating address, which its flags
 /// say.
-fn asks_to_leave(m: &[u8]) -> bool {
+fn asks_to_leave(m: &[u8]) -> bool
+    ensures { result ≡ asks_to_leave m.now }
+{
     match m {
         [first, flags, ..] => *first == function::DISCONNECT_REQUEST && *flags == 0,
         _ => false,
@@ -61,6 +67,37 @@ fn hushed_at(stage: Stage) -> Stage
     }
 }
 
+/// How far it is behind this message, which was put.
+fn put_at(stage: Stage, m: &[u8]) -> Stage
+    ensures { result ≡ put_at stage m.now }
+{
+    match stage {
+        Stage::Joined => {
+            if asks_to_leave(m) {
+                Stage::Leaving
+            } else {
+                Stage::Joined
+            }
+        }
+        Stage::Silent
+        | Stage::Waiting
+        | Stage::Asked
+        | Stage::Introduced
+        | Stage::Leaving
+        | Stage::Over => hushed_at(stage),
+    }
+}
+
+/// This device, and else that of before.
+fn newest(asker: Option<Identity>, before: Option<Identity>) -> Option<Identity>
+    ensures { result ≡ newest asker before }
+{
+    match asker {
+        Some(who) => Some(who),
+        None => before,
+    }
+}
+
 impl Course {
     /// The link of this number, on which no call was made.
     pub(crate) fn new(link: u64) -> Course
@@ -83,13 +120,7 @@ impl Course {
 
     /// What it tells where this becomes of it at this time.
     pub(crate) fn tells(&self, since: Duration, event: Event) -> Told
-        ensures since { result.since ≡ since }
-        ensures event { result.event ≡ event }
-        ensures link { result.link ≡ self.now.link }
-        ensures conn { result.conn ≡ self.now.conn }
-        ensures who { result.who ≡ self.now.who }
-        ensures received { result.received ≡ self.now.received }
-        ensures sent { result.sent ≡ self.now.sent }
+        ensures { result ≡ told_of self.now since event }
     {
         Told {
             since,
@@ -103,7 +134,9 @@ impl Course {
     }
 
     /// Whether it hasn't joined yet, and may.
-    pub(crate) fn may_join(&self) -> bool {
+    pub(crate) fn may_join(&self) -> bool
+        ensures { result ≡ may_join self.now.stage }
+    {
         match self.stage {
             Stage::Silent | Stage::Waiting | Stage::Asked => true,
             Stage::Introduced | Stage::Joined | Stage::Leaving | Stage::Over => false,
@@ -125,94 +158,59 @@ impl Course {
 
     /// A message came, and it is the Connect-Request of this one, if of anyone.
     pub(crate) fn message(&mut self, asker: Option<Identity>)
-        ensures received { self.new.received ≡ counted self.old.received }
-        ensures sent { self.new.sent ≡ self.old.sent }
-        ensures link { self.new.link ≡ self.old.link }
-        ensures conn { self.new.conn ≡ self.old.conn }
+        ensures { self.new ≡ heard asker self.old }
     {
         self.received = self.received.saturating_add(1);
         self.stage = heard_at(self.stage, asker.is_some());
-        if let Some(who) = asker {
-            self.who = Some(who);
-        }
+        self.who = newest(asker, self.who);
     }
 
     /// Nothing came that is a message.
     pub(crate) fn nothing(&mut self)
-        ensures received { self.new.received ≡ self.old.received }
-        ensures sent { self.new.sent ≡ self.old.sent }
-        ensures link { self.new.link ≡ self.old.link }
-        ensures conn { self.new.conn ≡ self.old.conn }
+        ensures { self.new ≡ hushed self.old }
     {
         self.stage = hushed_at(self.stage);
     }
 
     /// A message was put.
     pub(crate) fn put(&mut self, m: &[u8])
-        ensures received { self.new.received ≡ self.old.received }
-        ensures sent { self.new.sent ≡ counted self.old.sent }
-        ensures link { self.new.link ≡ self.old.link }
-        ensures conn { self.new.conn ≡ self.old.conn }
+        ensures { self.new ≡ put m.now self.old }
     {
         self.sent = self.sent.saturating_add(1);
-        self.stage = match self.stage {
-            Stage::Joined => {
-                if asks_to_leave(m) {
-                    Stage::Leaving
-                } else {
-                    Stage::Joined
-                }
-            }
-            stage => hushed_at(stage),
-        };
+        self.stage = put_at(self.stage, m);
     }
 
     /// It is this connection's from now on.
     pub(crate) fn known_as(&mut self, conn: u64)
-        ensures conn { self.new.conn ≡ Some conn }
-        ensures who { self.new.who ≡ self.old.who }
-        ensures link { self.new.link ≡ self.old.link }
-        ensures received { self.new.received ≡ self.old.received }
-        ensures sent { self.new.sent ≡ self.old.sent }
+        ensures { self.new ≡ introduced conn self.old }
     {
         self.conn = Some(conn);
         self.stage = Stage::Introduced;
     }
 
-    /// Something is new for another connection. Whether that is the one whose place it took: so it is right behind its own join.
-    pub(crate) fn takes_over(&mut self) -> bool
-        ensures taken { self.old.stage ≡ Stage.Introduced → result ≡ true }
-        ensures other { self.old.stage ≢ Stage.Introduced → result ≡ false }
-        ensures conn { self.new.conn ≡ self.old.conn }
-        ensures who { self.new.who ≡ self.old.who }
-        ensures link { self.new.link ≡ self.old.link }
-        ensures received { self.new.received ≡ self.old.received }
-        ensures sent { self.new.sent ≡ self.old.sent }
+    /// Something is new for this other connection. What that tells: right behind its own join, that it took that one's place.
+    pub(crate) fn wake(&mut self, conn: u64) -> Option<Event>
+        ensures known { self.new ≡ woken self.old }
+        ensures told { result ≡ takeover self.old.stage conn }
     {
         match self.stage {
             Stage::Introduced => {
                 self.stage = Stage::Joined;
-                true
+                Some(Event::TookOver(conn))
             }
             Stage::Silent
             | Stage::Waiting
             | Stage::Asked
             | Stage::Joined
             | Stage::Leaving
-            | Stage::Over => false,
+            | Stage::Over => None,
         }
     }
 
     /// It has ended so, unless it had ended before.
     fn end(&mut self, event: Event) -> Option<Event>
-        ensures over { self.new.stage ≡ Stage.Over }
-        ensures once { self.old.stage ≡ Stage.Over → result ≡ None }
-        ensures told { self.old.stage ≢ Stage.Over → result ≡ Some event }
-        ensures conn { self.new.conn ≡ self.old.conn }
-        ensures who { self.new.who ≡ self.old.who }
-        ensures link { self.new.link ≡ self.old.link }
-        ensures received { self.new.received ≡ self.old.received }
-        ensures sent { self.new.sent ≡ self.old.sent }
+        ensures known { self.new ≡ ended self.old }
+        ensures told { result ≡ once self.old.stage event }
     {
         let before = self.stage;
         self.stage = Stage::Over;
@@ -224,32 +222,30 @@ impl Course {
 
     /// A call on it failed.
     pub(crate) fn failed(&mut self) -> Option<Event>
-        ensures over { self.new.stage ≡ Stage.Over }
-        ensures once { self.old.stage ≡ Stage.Over → result ≡ None }
+        ensures known { self.new ≡ ended self.old }
+        ensures told { result ≡ once self.old.stage (Event.Ended Cause.LinkFault) }
     {
         self.end(Event::Ended(Cause::LinkFault))
     }
 
     /// The peer closed it; its connection was taken over, if that is known.
     pub(crate) fn peer_closed(&mut self, is_taken: bool) -> Option<Event>
-        ensures over { self.new.stage ≡ Stage.Over }
-        ensures once { self.old.stage ≡ Stage.Over → result ≡ None }
+        ensures known { self.new ≡ ended self.old }
+        ensures told { result ≡ once self.old.stage (peer_closed_at self.old.stage is_taken) }
     {
-        let cause = match self.stage {
-            Stage::Leaving => parted(is_taken),
-            _ => Cause::PeerClosed,
-        };
-        self.end(Event::Ended(cause))
+        self.end(peer_closed_at(self.stage, is_taken))
     }
 
     /// The hub closed it with this code and this reason.
-    pub(crate) fn closed(&mut self, code: u16, reason: &str, is_taken: bool) -> Option<Event>
-        ensures over { self.new.stage ≡ Stage.Over }
-        ensures once { self.old.stage ≡ Stage.Over → result ≡ None }
-        ensures unserved { self.old.stage ≡ Stage.Silent → result ≡ Some Event.NoSession }
-        ensures served { result ≡ Some Event.NoSession → self.old.stage ≡ Stage.Silent }
+    pub(crate) fn closed(
+        &mut self,
+        code: u16,
+        reason: Option<Reason>,
+        is_taken: bool,
+    ) -> Option<Event>
+        ensures known { self.new ≡ ended self.old }
+        ensures told { result ≡ once self.old.stage (closed_at self.old.stage code reason is_taken) }
     {
-        let event = event_at(self.stage, code, reason, is_taken);
-        self.end(event)
+        self.end(closed_at(self.stage, code, reason, is_taken))
     }
 }

@@ -19,6 +19,7 @@ mod log;
 mod logged_acceptor;
 mod logged_link;
 mod logging;
+mod reading;
 mod shared;
 mod stage;
 mod stamp;

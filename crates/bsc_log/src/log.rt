@@ -1,9 +1,24 @@
 //! What is told of one link.
+ghost use Rattle.std.specs.Prelude.{ℕ, None, Bool, Ok};
+ghost use Rattle.bsc_edge.specs.Told.{fault_in};
+ghost use Rattle.bsc_edge.specs.declared.incoming.Incoming.{Incoming as IncomingType};
+ghost use Rattle.bsc_edge.specs.declared.notice.Notice.{Notice};
+ghost use Rattle.bsc_edge.specs.declared.said.Said.{Said};
+ghost use Rattle.bsc_log.specs.Causes.{peer_closed_at};
+ghost use Rattle.bsc_log.specs.Courses.{hushed};
+ghost use Rattle.bsc_log.specs.Following.{Ends, GoesOn, Hears, Heeds, IsAsker};
+ghost use Rattle.bsc_log.specs.declared.event.Event.{Event as EventType};
+ghost use Rattle.bsc_log.specs.declared.event.Cause.{Cause as CauseType};
+
 use crate::asking::asker_in;
 use crate::course::Course;
 use crate::event::Event;
+use crate::reading::reason_of;
 use crate::shared::Shared;
+use crate::told::Told;
 use bsc_edge::{Incoming, LinkFault};
+use bsc_octets::Identity;
+use bsc_past::Past;
 use std::alloc::Global;
 use std::sync::{Arc, Wait};
 use std::time::{Clock, Duration};
@@ -14,6 +29,19 @@ pub(crate) struct Log<R> {
     pub(crate) rt: R,
     pub(crate) shared: Arc<Shared>,
     pub(crate) course: Course,
+    /// What was told so far, for contracts alone.
+    pub(crate) told: Past<Told>,
+}
+
+/// Who asks to join by these octets on a link of which this is known.
+fn asker_at(alloc: Global, course: &Course, m: &[u8]) -> Option<Identity>
+    ensures { IsAsker course.now.stage m.now result }
+{
+    if course.may_join() {
+        asker_in(alloc, m)
+    } else {
+        None
+    }
 }
 
 impl<R> Log<R> {
@@ -24,74 +52,102 @@ impl<R> Log<R> {
             None => false,
         }
     }
+
+    /// A message came.
+    fn message(&mut self, alloc: Global, m: &[u8])
+        ensures { Hears self.old self.new (Said.Gave 0 (Ok (IncomingType.Message m.now))) }
+    {
+        let asker = asker_at(alloc, &self.course, m);
+        self.course.message(asker);
+    }
+
+    /// Nothing came that is a message.
+    fn nothing(&mut self)
+        ensures { GoesOn self.old self.new (hushed self.old.course) None }
+    {
+        self.course.nothing();
+    }
 }
 
 impl<R: Clock + Wait> Log<R> {
     /// Tells this, where there is something to tell.
-    fn tell(&self, event: Option<Event>) {
+    fn tell(&mut self, event: Option<Event>)
+        ensures { GoesOn self.old self.new self.old.course event }
+    {
         if let Some(event) = event {
             let since = self.rt.since_1970().unwrap_or(Duration::ZERO);
-            self.shared.tell(&self.rt, self.course.tells(since, event));
+            let told = self.course.tells(since, event);
+            self.told.add(&told);
+            self.shared.tell(&self.rt, told);
         }
+    }
+
+    /// A call on it failed.
+    fn failed(&mut self)
+        ensures { Ends self.old self.new (EventType.Ended CauseType.LinkFault) }
+    {
+        let event = self.course.failed();
+        self.tell(event);
+    }
+
+    /// Its peer closed it.
+    fn peer_closed(&mut self)
+        ensures { (taken : Bool) × Ends self.old self.new (peer_closed_at self.old.course.stage taken) }
+    {
+        let is_taken = self.is_taken();
+        let event = self.course.peer_closed(is_taken);
+        self.tell(event);
     }
 
     /// This was given by a receive. It is one piece of code, apart from the receive's, of which each join meets a part alone.
     #[inline(never)]
-    pub(crate) fn given(&mut self, alloc: Global, given: &Result<Incoming, LinkFault>) {
+    pub(crate) fn given(&mut self, alloc: Global, given: &Result<Incoming, LinkFault>)
+        ensures { (wait : ℕ) → Hears self.old self.new (Said.Gave wait given.now) }
+    {
         match given {
-            Ok(Incoming::Message(m)) => {
-                let asker = if self.course.may_join() {
-                    asker_in(alloc, m.as_slice())
-                } else {
-                    None
-                };
-                self.course.message(asker);
-            }
-            Ok(Incoming::Closed) => {
-                let is_taken = self.is_taken();
-                let event = self.course.peer_closed(is_taken);
-                self.tell(event);
-            }
-            Err(LinkFault::Failed) => {
-                let event = self.course.failed();
-                self.tell(event);
-            }
-            Ok(Incoming::Quiet) | Ok(Incoming::Text) | Err(LinkFault::NoMemory) => {
-                self.course.nothing();
-            }
+            Ok(Incoming::Message(m)) => self.message(alloc, m.as_slice()),
+            Ok(Incoming::Closed) => self.peer_closed(),
+            Err(LinkFault::Failed) => self.failed(),
+            Ok(Incoming::Quiet) | Ok(Incoming::Text) | Err(LinkFault::NoMemory) => self.nothing(),
         }
     }
 
     /// A put of these octets was answered so.
-    pub(crate) fn put(&mut self, m: &[u8], answer: &Result<(), LinkFault>) {
+    pub(crate) fn put(&mut self, m: &[u8], answer: &Result<(), LinkFault>)
+        ensures { Hears self.old self.new (Said.Put m.now (fault_in answer.now)) }
+    {
         match answer {
             Ok(()) => self.course.put(m),
-            Err(LinkFault::Failed) => {
-                let event = self.course.failed();
-                self.tell(event);
-            }
-            Err(LinkFault::NoMemory) => self.course.nothing(),
+            Err(LinkFault::Failed) => self.failed(),
+            Err(LinkFault::NoMemory) => self.nothing(),
         }
     }
 
     /// It was closed with this code and this reason, whatever was answered.
-    pub(crate) fn closed(&mut self, code: u16, reason: &str) {
+    pub(crate) fn closed(&mut self, code: u16, reason: &str)
+        ensures { Hears self.old self.new (Said.Closed code reason.now) }
+    {
         let is_taken = self.is_taken();
-        let event = self.course.closed(code, reason, is_taken);
+        let event = self.course.closed(code, reason_of(reason), is_taken);
         self.tell(event);
     }
 
     /// It is this connection's from now on.
-    pub(crate) fn known_as(&mut self, conn: u64) {
+    pub(crate) fn known_as(&mut self, conn: u64)
+        ensures { Heeds self.old self.new (Notice.Known conn) }
+    {
         self.course.known_as(conn);
         self.tell(Some(Event::Joined));
     }
 
     /// Something is new for this other connection.
-    pub(crate) fn wake(&mut self, conn: u64) {
-        if self.course.takes_over() {
+    pub(crate) fn wake(&mut self, conn: u64)
+        ensures { Heeds self.old self.new (Notice.Woke conn) }
+    {
+        let event = self.course.wake(conn);
+        if event.is_some() {
             self.shared.takeovers.note(conn);
-            self.tell(Some(Event::TookOver(conn)));
         }
+        self.tell(event);
     }
 }

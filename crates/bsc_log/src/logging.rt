@@ -1,8 +1,12 @@
 //! What the logs of links share.
+ghost use Rattle.std.specs.Prelude.{IfSome};
+ghost use Rattle.bsc_log.specs.Following.{Begins};
+
 use crate::course::Course;
 use crate::log::Log;
 use crate::shared::Shared;
 use bsc_octets::NoMemory;
+use bsc_past::Past;
 use std::alloc::Global;
 use std::io::Stderr;
 use std::sync::{Arc, Wait};
@@ -31,13 +35,16 @@ impl<R: Copy> Logging<R> {
     }
 
     /// The log of the next link that arrives. There is none where the share of it can't be counted.
-    pub(crate) fn next_log(&mut self) -> Option<Log<R>> {
+    pub(crate) fn next_log(&mut self) -> Option<Log<R>>
+        ensures { IfSome result Begins }
+    {
         self.arrived = self.arrived.saturating_add(1);
         match Arc::try_clone(&self.shared) {
             Ok(shared) => Some(Log {
                 rt: self.rt,
                 shared,
                 course: Course::new(self.arrived),
+                told: Past::new(),
             }),
             Err(_) => None,
         }

@@ -54,4 +54,4 @@ returns-in-Ok g c =
     c.requires.index c.requires.caller c.requires.own
     (subst (λ (who : Identity). Passed h p [] (connect_made (number_of p) who (Ok j)) m) c.receiver.ensures c.in-Ok.ensures.pass)
     (subst (λ (who : Identity). IsOwnAs m j.conn who.vmac) c.receiver.ensures c.in-Ok.ensures.owns)
-    c.forward_all-octets.ensures.ran c.leave.ensures.pass c.leave.ensures.taken c.leave.ensures.given
+    c.forward_all-octets.ensures.ran c.leave.ensures.pass c.leave.ensures.taken c.leave.ensures.given c.leave.ensures.found

@@ -2,8 +2,8 @@ use Rattle.std.proofs.Common.{◌≡◌, ◌-◌, length, take, drop, arith, len
 use Rattle.bsc_log.proofs.Requests.{asks_plainly}
 use Rattle.bsc_log.proofs.asking.plain_asker.Goals as goal
 
-pub returns : goal.returns
-returns c =
+pub returns-clause-found : goal.returns-clause-found
+returns-clause-found c =
     let m = c.args.m.now in
     let behind : take (length m - 4) (drop 4 m) ≡ drop 4 m = take_all (length m - 4) (drop 4 m) (omega (arith, length-drop 4 m)) in
-    asks_plainly m _ c.node_in.result (λ i. let f = c.type_inv.m i in omega (arith, f)) (omega arith) (omega arith) (omega arith) behind c.node_in.ensures
+    asks_plainly m _ c.node_in.result (λ i. let f = c.type_inv.m i in omega (arith, f)) (omega arith) (omega arith) (omega arith) behind c.node_in.ensures.found
