@@ -3,18 +3,20 @@
 //! A socket that is closed while octets are unread has its system answer with a reset, which takes with it, at the peer, what
 //! was written last and isn't read yet. So a socket is first ended for writing. Then what still comes is read and dropped, until
 //! the peer's stream ends too, or its time is over (RFC 6455, 7.1.1).
-ghost use Rattle.std.specs.Prelude.{◌≡◌, ◌≤◌, ◌+◌, IsTrue, min, vec_len};
+ghost use Rattle.std.specs.Prelude.{◌≡◌, ◌≤◌, ◌+◌, ◌++◌, ◌∷◌, [], IsTrue, None, drop, if◌then◌else◌, length, min, nat_lt, slice_get};
+ghost use Rattle.circular_buffer.specs.Buffer.{buffer, keep_last};
 
 use crate::moment::{Moment, wait_of};
 use bsc_octets::NoMemory;
+use circular_buffer::HeapCircularBuffer;
 use mio::net::TcpStream;
 use std::alloc::Global;
 use std::io::{ErrorKind, Read};
 use std::net::Shutdown;
 use std::sync::atomic::{AtomicBool, AtomicU64, Ordering};
 use std::sync::{Mutex, Wait};
+use std::thread;
 use std::time::Clock;
-use std::{mem, thread};
 
 /// So many milliseconds a peer has to end its stream.
 pub const LINGER_MS: u32 = 1_000;
@@ -22,7 +24,7 @@ pub const LINGER_MS: u32 = 1_000;
 /// While sockets linger, so many milliseconds are between two looks at them.
 pub const LOOK_MS: u32 = 10;
 
-/// So many sockets linger at most. Where one more comes the oldest is let go.
+/// So many sockets linger at most. Where one more comes, the one is let go that was put there, or looked at, longest ago.
 const PLACES: usize = 256;
 
 /// At one look so many reads are made of a socket, of so many octets each.
@@ -73,52 +75,33 @@ impl Row {
     }
 }
 
-/// The sockets that linger, each in its place.
+/// The sockets that linger: in front the one that was put there, or looked at, longest ago.
 #[derive(Drop)]
 struct Table {
-    rows: Vec<Option<Row>>,
+    rows: HeapCircularBuffer<Row>,
 }
 
 impl Table {
-    /// A free place, or the place of the oldest; none where the table has no places.
-    fn place(&self) -> Option<usize> {
-        let mut oldest = None;
-        let mut least = Moment { micros: u64::MAX };
-        for (place, row) in self.rows.iter().enumerate() {
-            match row {
-                None => return Some(place),
-                Some(row) => {
-                    if row.until.micros <= least.micros {
-                        least = row.until;
-                        oldest = Some(place);
-                    }
-                }
-            }
-        }
-        oldest
-    }
-
-    /// Puts a row into a free place, or else in place of the oldest, which is given back.
+    /// Puts a row behind all others. Where there is no place left, the first makes room, and is given back.
     fn put(&mut self, row: Row) -> Option<Row>
-        ensures { vec_len self.new.rows ≡ vec_len self.old.rows }
+        ensures rows { self.new.rows ≡ buffer (keep_last self.old.rows.capacity (self.old.rows.items ++ row ∷ [])) self.old.rows.capacity }
+        ensures oldest { result ≡ (if nat_lt (length self.old.rows.items) self.old.rows.capacity then None else slice_get (self.old.rows.items ++ row ∷ []) 0) }
     {
-        let place = self.place()?;
-        let there = self.rows.get_mut(place)?;
-        mem::replace(there, Some(row))
+        self.rows.push_back(row)
     }
 
-    /// Takes the first row at this place or behind it, and tells its place.
-    fn take_from(&mut self, from: usize) -> Option<(usize, Row)>
-        ensures { vec_len self.new.rows ≡ vec_len self.old.rows }
+    /// Takes the first row.
+    fn take(&mut self) -> Option<Row>
+        ensures first { result ≡ slice_get self.old.rows.items 0 }
+        ensures rows { self.new.rows ≡ buffer (drop 1 self.old.rows.items) self.old.rows.capacity }
     {
-        for place in from..self.rows.len() {
-            if let Some(there) = self.rows.get_mut(place) {
-                if let Some(row) = there.take() {
-                    return Some((place, row));
-                }
-            }
-        }
-        None
+        self.rows.pop_front()
+    }
+
+    fn len(&self) -> usize
+        ensures { result ≡ length self.now.rows.items }
+    {
+        self.rows.len()
     }
 }
 
@@ -136,10 +119,7 @@ pub struct Lingering {
 impl Lingering {
     /// No sockets.
     pub fn new(alloc: Global) -> Result<Lingering, NoMemory> {
-        let mut rows = Vec::new(alloc);
-        for _ in 0..PLACES {
-            rows.push(None)?;
-        }
+        let rows = HeapCircularBuffer::with_capacity(alloc, PLACES)?;
         Ok(Lingering {
             table: Mutex::new(Table { rows }),
             some: AtomicBool::new(false),
@@ -149,9 +129,9 @@ impl Lingering {
 
     /// Lets a socket linger. What of another one has come that makes room for it is dropped at last.
     fn put<R: Wait>(&self, rt: &R, row: Row) {
-        let oldest = self.table.lock(rt).put(row);
+        let first = self.table.lock(rt).put(row);
         self.some.store(true, Ordering::SeqCst);
-        if let Some(row) = oldest {
+        if let Some(row) = first {
             let mut row = row;
             let _ = is_spent(&mut row.socket);
         }
@@ -169,19 +149,22 @@ impl Lingering {
         self.put(rt, Row::begin(socket, now));
     }
 
-    fn take_from<R: Wait>(&self, rt: &R, from: usize) -> Option<(usize, Row)> {
-        self.table.lock(rt).take_from(from)
+    /// Takes the socket that was put there, or looked at, longest ago.
+    fn next<R: Wait>(&self, rt: &R) -> Option<Row> {
+        self.table.lock(rt).take()
+    }
+
+    fn len<R: Wait>(&self, rt: &R) -> usize {
+        self.table.lock(rt).len()
     }
 
     /// Looks once at each socket that lingers, and lets those go that are over. Whether others go on.
     fn look_at_all<R: Wait>(&self, rt: &R, now: Moment) -> bool {
-        let mut from = 0usize;
         let mut lingers = false;
-        for _ in 0..PLACES {
-            let Some((place, row)) = self.take_from(rt, from) else {
+        for _ in 0..self.len(rt) {
+            let Some(row) = self.next(rt) else {
                 return lingers;
             };
-            from = place.saturating_add(1);
             let mut row = row;
             if !row.is_over(now) {
                 self.put(rt, row);

@@ -215,6 +215,39 @@ fn frames(rt: HostRuntime) -> Result<(), Fail> {
     Ok(())
 }
 
+/// A masked message of 300 octets, cut by a time-out behind each of its octets: the cut is Quiet, and then the message comes as it
+/// is. Where its stream ends at the cut, that is a fault.
+#[test]
+fn a_long_frame_is_cut(rt: HostRuntime) -> Result<(), Fail> {
+    let alloc = rt.alloc();
+    let mut message = Vec::new(alloc);
+    let mut frame = Vec::from_slice(alloc, b"\x82\xFE\x01\x2C\x37\xFA\x21\x3D")?;
+    for n in 0..75u8 {
+        message.extend_from_slice(&[n, 1, 2, 3])?;
+        frame.extend_from_slice(&[n ^ 0x37, 1 ^ 0xFA, 2 ^ 0x21, 3 ^ 0x3D])?;
+    }
+    for cut in 0..frame.len() {
+        let wanting = Cell::new(0);
+        let peer = peer_of(frame.as_slice(), cut, &[], &wanting);
+        let mut link = link_of(alloc, peer, Role::Server);
+        assert!(rt;
+            matches!(link.receive(alloc, 20), Ok(Incoming::Quiet)),
+            "cut at {cut}"
+        );
+        let Ok(Incoming::Message(m)) = link.receive(alloc, 20) else {
+            panic!(rt; "cut at {cut}");
+        };
+        assert!(rt; m.as_slice() == message.as_slice(), "cut at {cut}");
+        let (front, _) = frame.as_slice().split_at(cut);
+        let mut link = link_of(alloc, peer_of(front, cut, &[], &wanting), Role::Server);
+        assert!(rt;
+            matches!(link.receive(alloc, 20), Err(LinkFault::Failed)),
+            "cut at {cut}"
+        );
+    }
+    Ok(())
+}
+
 /// What a put and a closing write in each role: a client masks it, and a server doesn't.
 const PUTS: [(Role, &[u8]); 2] = [
     (Role::Server, b"\x82\x03abc\x88\x06\x03\xF0idle"),

@@ -4,7 +4,7 @@ ghost use Rattle.bsc_edge.specs.Threads.{Begins, job_of};
 ghost use Rattle.bsc_hub.specs.Passing.{IsCaller};
 
 use crate::books::{KeptJournal, KeptJournals, Still};
-use crate::peers::{LIMITS, new_hub};
+use crate::peers::{LIMITS, NONE, new_hub};
 use crate::scene::{CLOSING, CuedLink, FIRST, JOINING, LATER, OTHER, Part, Scene};
 use bsc_edge::{
     MemAcceptor, MemSpawner, Places, Promised, Running, Spawner, ThreadSpawner, Unstarted, launch,
@@ -32,20 +32,7 @@ type Thread = Running<Result<Left, Session>, Promised<Session>>;
 /// The greatest number of receives of a session that meets another: time enough for a thread to start.
 const TURNS: u64 = 5_000_000;
 
-/// The counts of a hub at which nobody connected.
-const NONE: Counts = Counts {
-    joined: 0,
-    replaced: 0,
-    refused: 0,
-    unicasts: 0,
-    broadcasts: 0,
-    appended: 0,
-    dropped: 0,
-    full: 0,
-    missed: 0,
-};
-
-/// The line of the Stop of such a hub.
+/// The line of the Stop of a hub at which nobody connected.
 const STOP_LINE: &str =
     "0 0 stop counts joined=0 replaced=0 refused=0 unicasts=0 broadcasts=0 appended=0 dropped=0 full=0 missed=0\n";
 
@@ -150,7 +137,7 @@ fn serve<R: Wait, P: Spawner<Session> + Drop>(
 ) -> Result<(ServeEnd, P, KeptJournal, Arc<Scene>), NoMemory>
     requires { P.can_start spawner }
 {
-    let (hub, mut pass) = new_hub(alloc, u64::from(asked.numbers) + 1)?;
+    let (hub, mut pass) = new_hub(alloc, 64, u64::from(asked.numbers) + 1)?;
     let hub = Arc::new(alloc, hub)?;
     let scene = Scene {
         accepted: AtomicBool::new(false),

@@ -186,7 +186,7 @@ fn each_call_and_each_line_fails(rt: HostRuntime) -> Result<(), Fail> {
         for octets in COURSE {
             gives.push(Incoming::Message(Octets::from_vec(Vec::from_slice(alloc, octets)?)))?;
         }
-        let (hub, mut pass) = new_hub(alloc, 1)?;
+        let (hub, mut pass) = new_hub(alloc, 64, 1)?;
         let mut link = MemLink::new(alloc, gives, row.failing);
         let mut clock = MemClock::new(alloc, &[]);
         let mut journal = MemSink::make(alloc, 1000, row.unwritten)?;
