@@ -2,7 +2,7 @@
 //! their contracts are the laws.
 #![tactic(auto)]
 
-ghost use Rattle.std.specs.Prelude.{List};
+ghost use Rattle.std.specs.Prelude.{◌≡◌, ◌^◌, List};
 ghost use Rattle.bsc_history.specs.declared.limits.About.{About};
 ghost use Rattle.bsc_history.specs.declared.entry.Entry.{Entry};
 ghost use Rattle.bsc_history.specs.Legality.{Legal};
@@ -10,6 +10,7 @@ ghost use Rattle.bsc_history.specs.Laws.{NumbersInOrder, NumbersAreNew, OneHolde
 ghost use Rattle.bsc_history.specs.Laws.{BroadcastJoins, BroadcastToOthersAlone, AddsOnce, FullCloses, FullMisses, OneOfThree};
 ghost use Rattle.bsc_history.specs.Laws.{NoneAfterEnd, JoinTakesOver, RefusalChangesNone, EndStays, EndsByCause, AddsAsNamed};
 ghost use Rattle.bsc_history.specs.Laws.{LiveUntilEnded, WithinCapacity};
+ghost use Rattle.bsc_history.specs.declared.limits.TheConstants.{MOST_CALLERS, MOST_CALLS, MOST_OCTETS, MOST_OUTBOX, MOST_ROWS};
 
 /// Connections are numbered from 1, in the order of joining.
 pub fn numbering()
@@ -110,4 +111,13 @@ pub fn until_end()
 /// An outbox never holds more than its capacity, by the newest look at it.
 pub fn within()
     ensures { (a : About) (H : List Entry) → Legal a H → WithinCapacity a H }
+{}
+
+/// A hub has 1,024 rows at most and outboxes of 1,024 frames, answers 2^52 calls of 2^62 callers, and its outboxes hold 2^30 octets.
+pub fn a_hub_has_1024_rows()
+    ensures rows { MOST_ROWS ≡ 1024 }
+    ensures outbox { MOST_OUTBOX ≡ 1024 }
+    ensures calls { MOST_CALLS ≡ 2 ^ 52 }
+    ensures callers { MOST_CALLERS ≡ 2 ^ 62 }
+    ensures octets { MOST_OCTETS ≡ 2 ^ 30 }
 {}

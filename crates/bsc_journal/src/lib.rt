@@ -8,6 +8,7 @@
 mod bounds;
 mod finding;
 mod having;
+mod laws;
 mod read_calls;
 mod read_replies;
 mod reading;
@@ -17,5 +18,6 @@ mod saying;
 pub use bounds::{MOST_IN_ALL, MOST_IN_LINE};
 pub use bsc_lines::entry_line;
 pub use finding::read_entry;
+pub use laws::journals_have_2_to_the_28_octets;
 pub use said::Said;
 pub use saying::read_said;

@@ -35,7 +35,7 @@ mod words;
 pub use bounds::{ACCEPT_WAIT_MS, LINK_WAIT_MS, LONGEST_REST_MS};
 pub use due::Due;
 pub use halt::Halt;
-pub use laws::waits_for_nothing_in_a_turn;
+pub use laws::{rests_50_ms_at_most, waits_for_nothing_in_a_turn};
 pub use link_set::LinkSet;
 pub use mem_words::MemWords;
 pub use news::{Change, News};

@@ -34,7 +34,7 @@ mod ticking;
 
 pub use bounds::{CONNECT_WAIT_MS, DISCONNECT_WAIT_MS, HEARTBEAT_MS, MOST_NAMES};
 pub use counting::{counts_line, put_counts};
-pub use laws::opens_2048_names;
+pub use laws::{opens_2048_names, the_hub_waits_10_seconds};
 pub use line::Line;
 pub use reading::read_line;
 pub use script::Script;

@@ -2,8 +2,8 @@
 //! has the law at hand.
 ghost use Rattle.std.specs.Prelude.{◌≡◌};
 ghost use Rattle.bsc_session.specs.Jobs.{Worked};
-ghost use Rattle.bsc_serve.specs.declared.bounds.TheConstants.{SESSIONS};
 ghost use Rattle.bsc_serve.specs.Alone.{AllButStopAreOfJobs, EntriesAreOfJobs, JobsAreApart, JobsEndAtLast, JobsHaveEnded, NothingBehindStop, SeenAreOfJobs, ServingIsAlone};
+ghost use Rattle.bsc_serve.specs.declared.bounds.TheConstants.{SESSIONS, WAIT_MS};
 
 use bsc_edge::{Clock, Journals, Link};
 use bsc_outside::Sink;
@@ -53,4 +53,9 @@ pub fn jobs_are_apart<L: Link, C: Clock, N: Sink, J: Journals<N>>()
 /// The places that the program has are for 2,048 sessions at once.
 pub fn there_are_2048_places()
     ensures { SESSIONS ≡ 2048 }
+{}
+
+/// The acceptor is asked for 20 ms at a time.
+pub fn the_acceptor_is_asked_for_20_ms()
+    ensures { WAIT_MS ≡ 20 }
 {}

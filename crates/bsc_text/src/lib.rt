@@ -8,6 +8,7 @@
 mod bounds;
 mod feed;
 mod grammar;
+mod laws;
 mod octets;
 mod text;
 mod words;
@@ -17,6 +18,7 @@ pub use feed::{Feed, NextLine};
 pub use grammar::{
     is_name, read_device, read_identity_words, read_maximum, read_number, read_vmac,
 };
+pub use laws::lines_have_140_000_octets;
 pub use octets::{OctetsFault, copy_of, read_octets};
 pub use text::Text;
 pub use words::{begins_comment, joined, next_word};
