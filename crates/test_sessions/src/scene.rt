@@ -7,6 +7,7 @@ use bsc_octets::Octets;
 use std::alloc::Global;
 use std::sync::Arc;
 use std::sync::atomic::{AtomicBool, AtomicU64, Ordering};
+use std::thread;
 
 /// What the links of a test see of each other.
 #[derive(Drop)]
@@ -73,7 +74,7 @@ pub const LATER: Part = Part {
     is_later: true,
 };
 
-/// A link that gives its messages and then Closed, each when its time has come, and is Quiet until then.
+/// A link that gives its messages and then Closed, each when its time has come. Until then it is Quiet, and gives the processor away.
 #[derive(Drop)]
 pub struct CuedLink {
     pub part: Part,
@@ -100,6 +101,7 @@ impl Link for CuedLink {
         };
         if !has_come {
             self.quiets = self.quiets.saturating_add(1);
+            thread::yield_now();
             return Ok(Incoming::Quiet);
         }
         self.part.cues = rest;

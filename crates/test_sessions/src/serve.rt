@@ -30,7 +30,7 @@ type Left = SessionEnd<CuedLink, Still, KeptJournal>;
 type Thread = Running<Result<Left, Session>, Promised<Session>>;
 
 /// The greatest number of receives of a session that meets another: time enough for a thread to start.
-const TURNS: u64 = 5_000_000;
+const TURNS: u64 = 50_000_000;
 
 /// The line of the Stop of a hub at which nobody connected.
 const STOP_LINE: &str =
