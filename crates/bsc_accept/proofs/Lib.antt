@@ -1,3 +1,4 @@
 pub mod Looking
 pub mod Following
 pub mod Common
+pub mod OwnOctets

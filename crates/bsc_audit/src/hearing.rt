@@ -6,13 +6,14 @@ ghost use Rattle.bsc_journal.specs.Good.{IsGood};
 ghost use Rattle.bsc_audit.specs.Hearing.{Adds, HasHeard, HasHeardAll, HearsPiece, IsBadAnyhow, part};
 ghost use Rattle.bsc_audit.specs.Verdicts.{IsFirstBad};
 
-use crate::cutting::{after, between, cannot_fit, first_lf, is_too_big, line_in};
+use crate::cutting::{after, between, cannot_fit, is_too_big};
 use crate::heard::Heard;
 use crate::room::room_for_one;
 use bsc_journal::{MOST_IN_ALL, Said, read_said};
 use bsc_octets::NoMemory;
 use bsc_places::Spot;
 use bsc_player::LineFault;
+use bsc_text::{first_lf, line_in};
 use std::alloc::Global;
 
 /// What was heard before the first line.

@@ -10,14 +10,13 @@ use Rattle.bsc_frame.specs.declared.check.Check.TheVariants.{C1, C2, C3, C5, C6,
 use Rattle.bsc_frame.specs.Layout.{options_at}
 use Rattle.bsc_frame.specs.Checks.{IsFirstOf}
 use Rattle.bsc_frame.specs.Spelling.{spelling}
-use Rattle.bsc_frame.proofs.First.{Pass as PassAll}
+use Rattle.bsc_frame.proofs.First.{Pass as PassAll, first_here, first_after}
 use Rattle.bsc_checks.specs.declared.place.Place.{Place}
 use Rattle.bsc_checks.specs.declared.place.Place.TheVariants.{HubPort, NodeHub, NodeDirect}
 use Rattle.bsc_checks.specs.Places.{origin_in, dest_in, is_to_carry}
 use Rattle.bsc_checks.specs.Table.{Fails, code_of, checks_of, IsFirst, NoneFails, IsFirstNotUnderstood}
 use Rattle.bsc_checks.specs.Naks.{IsAnswered, IsNak, IsMarker, return_address, nak_to}
 use Rattle.bsc_checks.specs.Verdicts.{Judged}
-use Rattle.bsc_checks.proofs.Firsts.{first_here, first_after}
 use Rattle.bsc_checks.proofs.NakOctets.{nak_spelled}
 use Rattle.bsc_checks.proofs.Verdicts.{frame_passes}
 use Rattle.bsc_checks.specs.Options.{AreOctets, dest_options_in}

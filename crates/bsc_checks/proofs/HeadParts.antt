@@ -11,11 +11,11 @@ use Rattle.bsc_frame.specs.declared.check.Check.{Check}
 use Rattle.bsc_frame.specs.declared.check.Check.TheVariants.{C1, C2, C3, C4}
 use Rattle.bsc_frame.specs.Checks.{LacksAddressOctets}
 use Rattle.bsc_frame.proofs.Heads.{head_facts, lacks_none}
+use Rattle.bsc_frame.proofs.First.{first_here, first_after}
 use Rattle.bsc_checks.specs.declared.place.Place.{Place}
 use Rattle.bsc_checks.specs.Places.{origin_in, dest_in, HasWrongAddresses}
 use Rattle.bsc_checks.specs.Table.{Fails}
 use Rattle.bsc_checks.specs.Walk.{IsHead, HeadAnswers, PlacedAnswers}
-use Rattle.bsc_checks.proofs.Firsts.{first_here, first_after}
 use Rattle.bsc_octets.proofs.Common.{same_id}
 
 -- ---- the parts of the envelope

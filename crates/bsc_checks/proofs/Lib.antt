@@ -1,9 +1,9 @@
 pub mod SameAddress
-pub mod Firsts
 pub mod HeadParts
 pub mod Behind
 pub mod Lists
 pub mod NakOctets
+pub mod OwnOctets
 pub mod Stages
 pub mod Unique
 pub mod InPlace

@@ -1,27 +1,28 @@
 -- The two lists of header options of a message, and the checks of them.
-use Rattle.std.proofs.Common.{◌≡◌, ℕ, ◌-◌, inl, inr, Bool, true, false, List, [], ◌∷◌, ◌++◌, length, take, drop, Option, Some, None, Ok, Err, refl, sym, ap, subst, ◌∙◌, arith}
-use Rattle.std.specs.Prelude.{IsTrue, IfSome, IfNone}
+use Rattle.std.proofs.Common.{◌≡◌, ℕ, ◌-◌, Bool, List, [], ◌∷◌, ◌++◌, length, take, drop, Option, Some, None, Ok, Err, refl, sym, ap, subst, ◌∙◌, arith}
+use Rattle.std.specs.Prelude.{IfSome, IfNone}
 use Rattle.std.specs.List.{AllByRecursion}
 use Rattle.std.proofs.lemmas.List.{take_at}
 use Rattle.bsc_octets.specs.declared.envelope.Envelope.{Envelope}
 use Rattle.bsc_octets.specs.Envelopes.{flags_in}
 use Rattle.bsc_options.specs.declared.item.OptionItem.{OptionItem}
-use Rattle.bsc_options.specs.Spelling.{Fits, HasShape, spelling_of}
+use Rattle.bsc_options.specs.Spelling.{Fits, spelling_of}
 use Rattle.bsc_frame.specs.declared.check.Check.{Check}
-use Rattle.bsc_frame.specs.declared.check.Check.TheVariants.{C7, C7b, C8, C9}
+use Rattle.bsc_frame.specs.declared.check.Check.TheVariants.{C1, C3, C5, C6, C7, C7b, C8, C9, C10, C10b, C10c, C11}
+use Rattle.bsc_frame.specs.declared.lists.Ends.{Ends}
 use Rattle.bsc_frame.specs.Layout.{announces_dest_options, announces_data_options, options_at, IsList}
-use Rattle.bsc_options.specs.Reading.{IsCut}
-use Rattle.bsc_frame.specs.Checks.{HasItemAtFault, HasBadOption, LacksOptionOctets, HasMisplacedDataOptions}
-use Rattle.bsc_frame.specs.Walk.{FaultAnswers}
-use Rattle.bsc_frame.proofs.OptionLists.{list_one, list_spelled}
-use Rattle.bsc_checks.specs.declared.options.Ends.{Ends}
+use Rattle.bsc_frame.specs.Checks.{IsFirstOf, MessageFails}
+use Rattle.bsc_frame.specs.Walk.{HasLists, option_checks as frame_checks}
+use Rattle.bsc_frame.proofs.Common.{list_fits, list_place}
+use Rattle.bsc_frame.proofs.First.{Pass, first_as, first_earlier, first_here, first_after}
+use Rattle.bsc_frame.proofs.Heads.{head_facts}
+use Rattle.bsc_frame.proofs.OptionLists.{list_one, list_spelled, lists_pass, well}
 use Rattle.bsc_checks.specs.declared.place.Place.{Place}
 use Rattle.bsc_checks.specs.declared.refusal.Refusal.{Refusal}
+use Rattle.bsc_checks.specs.Naks.{IsMarker}
 use Rattle.bsc_checks.specs.Table.{Fails, IsFirstNotUnderstood, HasOptionNotUnderstood}
 use Rattle.bsc_checks.specs.Walk.{IsHead, HasEnds, OptionsAnswer, marker_refused}
-use Rattle.bsc_checks.proofs.Firsts.{first_here, first_after}
 use Rattle.bsc_checks.proofs.Behind.{refused_at, refused_none}
-use Rattle.bsc_frame.proofs.Common.{list_fits, list_place, list_without_fault as sound, not_cut}
 
 -- ---- one list
 
@@ -34,44 +35,22 @@ list_taken b m at items end list =
 
 -- ---- the lists of a message
 
--- the data options stand where they do
-one_place : (m : List ℕ) (ends : Ends) (xs ys items : List OptionItem) (at : ℕ) → HasEnds m ends xs ys → IsList (announces_dest_options (flags_in m)) m (options_at m) items at → at ≡ ends.dest
-one_place m ends xs ys items at has list = (list_one (announces_dest_options (flags_in m)) m (options_at m) items xs at ends.dest list has.first).1
-
-no_octets_lack : (m : List ℕ) (ends : Ends) (xs ys : List OptionItem) → HasEnds m ends xs ys → LacksOptionOctets m → ⊥
-no_octets_lack m ends xs ys has (inl lack) = not_cut (announces_dest_options (flags_in m)) m (options_at m) xs ends.dest has.first lack.0 lack.1
-no_octets_lack m ends xs ys has (inr lack) =
-    not_cut (announces_data_options (flags_in m)) m ends.dest ys ends.data has.second lack.0 (subst (IsCut m) (one_place m ends xs ys lack.1.1.0 lack.1.0 has lack.1.1.1) lack.1.2)
-
-no_bad_option : (m : List ℕ) (ends : Ends) (xs ys : List OptionItem) → HasEnds m ends xs ys → AllByRecursion HasShape xs → AllByRecursion HasShape ys → HasBadOption m → ⊥
-no_bad_option m ends xs ys has shapes others (inl bad) = sound (announces_dest_options (flags_in m)) m (options_at m) xs ends.dest has.first shapes bad.0 bad.1
-no_bad_option m ends xs ys has shapes others (inr bad) =
-    sound (announces_data_options (flags_in m)) m ends.dest ys ends.data has.second others bad.0 (subst (HasItemAtFault m) (one_place m ends xs ys bad.1.1.0 bad.1.0 has bad.1.1.1) bad.1.2)
+-- the lists that `bsc_frame` found, by the flags and the place that the octets say
+pub has_ends : (m : List ℕ) (e : Envelope) (ends : Ends) (xs ys : List OptionItem) → IsHead m e → HasLists m e ends.dest ends.data xs ys → HasEnds m ends xs ys
+has_ends m e ends xs ys head lists =
+    record {
+      first = subst (λ (at : ℕ). IsList (announces_dest_options (flags_in m)) m at xs ends.dest) (sym head.rest)
+          (subst (λ (b : Bool). IsList b m e.rest_at xs ends.dest) (ap announces_dest_options (sym head.flags)) lists.dest_list);
+      second = subst (λ (b : Bool). IsList b m ends.dest ys ends.data) (ap announces_data_options (sym head.flags)) lists.data_list;
+      middle = lists.middle;
+      within = lists.within;
+    }
 
 -- the first list, by the flags of the envelope
 pub first_whole : (m : List ℕ) (e : Envelope) (ends : Ends) (xs ys : List OptionItem) (b : Bool) → IsHead m e → HasEnds m ends xs ys → b ≡ announces_dest_options e.flags → IsList b m e.rest_at xs ends.dest
 first_whole m e ends xs ys b head has is =
     subst (λ (c : Bool). IsList c m e.rest_at xs ends.dest) (ap announces_dest_options head.flags ∙ sym is)
     (subst (λ (at : ℕ). IsList (announces_dest_options (flags_in m)) m at xs ends.dest) head.rest has.first)
-
-pub second_whole : (m : List ℕ) (e : Envelope) (ends : Ends) (xs ys : List OptionItem) (b : Bool) → IsHead m e → HasEnds m ends xs ys → b ≡ announces_data_options e.flags → IsList b m ends.dest ys ends.data
-second_whole m e ends xs ys b head has is = subst (λ (c : Bool). IsList c m ends.dest ys ends.data) (ap announces_data_options head.flags ∙ sym is) has.second
-
--- ---- an option that is refused for its type or shape
-
--- what looking at both lists says, where nothing is found in the first
-bad_by : (m : List ℕ) (e : Envelope) (ends : Ends) (xs ys : List OptionItem) (b c s : Bool) → IsHead m e → HasEnds m ends xs ys → b ≡ announces_dest_options e.flags → c ≡ announces_data_options e.flags
-    → FaultAnswers b m e.rest_at false → FaultAnswers c m ends.dest s → (IsTrue s → HasBadOption m) × (HasBadOption m → IsTrue s)
-bad_by m e ends xs ys b c true head has is also none found =
-    ((λ set. inr (ap announces_data_options head.flags ∙ sym also ∙ found.0, (ends.dest, (xs, has.first), found.1))), (λ bad. refl))
-bad_by m e ends xs ys b c false head has is also none found = (
-  (λ set. absurd cc),
-  (λ bad. absurd (no_bad_option m ends xs ys has (none xs ends.dest (first_whole m e ends xs ys b head has is)) (found ys ends.data (second_whole m e ends xs ys c head has also)) bad)),
-)
-
-pub bad_in : (m : List ℕ) (e : Envelope) (ends : Ends) (xs ys : List OptionItem) (b c r s : Bool) → IsHead m e → HasEnds m ends xs ys → b ≡ announces_dest_options e.flags → c ≡ announces_data_options e.flags
-    → r ≡ false → FaultAnswers b m e.rest_at r → FaultAnswers c m ends.dest s → (IsTrue s → HasBadOption m) × (HasBadOption m → IsTrue s)
-bad_in m e ends xs ys b c r s head has is also clear none found = bad_by m e ends xs ys b c s head has is also (subst (FaultAnswers b m e.rest_at) clear none) found
 
 -- ---- an option that is not understood
 
@@ -119,30 +98,48 @@ understood_none m e ends xs ys None head has says = all_understood m ends xs ys 
 abbrev pub plain : Check → Refusal
 plain k = record { check = k; marker = 0 }
 
-pub lack_first : (m : List ℕ) (place : Place) (max : ℕ) (r : Refusal) → r ≡ plain C7 → LacksOptionOctets m → OptionsAnswer m place max (Err r)
-lack_first m place max r is lack = rw is (first_here (Fails m place max) C7 (C7b ∷ C8 ∷ C9 ∷ []) lack, refl)
+-- a check that fails of octets fails of them at each place
+fails_at : (m : List ℕ) (place : Place) (max : ℕ) (k : Check) → MessageFails m k → Fails m place max k
+fails_at m place max C1 fault = fault
+fails_at m place max C3 fault = fault
+fails_at m place max C5 fault = fault
+fails_at m place max C6 fault = fault
+fails_at m place max C7 fault = fault
+fails_at m place max C7b fault = fault
+fails_at m place max C8 fault = fault
+fails_at m place max C10 fault = fault
+fails_at m place max C10b fault = fault
+fails_at m place max C10c fault = fault
+fails_at m place max C11 fault = fault
+fails_at m place max k fault = absurd fault
 
-pub bad_answer : (m : List ℕ) (place : Place) (max : ℕ) (r : Refusal) → r ≡ plain C7b → (ends : Ends) (xs ys : List OptionItem) → HasEnds m ends xs ys → HasBadOption m → OptionsAnswer m place max (Err r)
-bad_answer m place max r is ends xs ys has bad =
+-- and has the marker 00
+plain_marker : (m : List ℕ) (k : Check) → MessageFails m k → IsMarker m k 0
+plain_marker m C9 fault = absurd fault
+plain_marker m k fault = refl
+
+-- the first check that fails of the lists, of those that `bsc_frame` makes
+pub first_answer : (m : List ℕ) (place : Place) (max : ℕ) (r : Refusal) (k : Check) → r ≡ plain k → IsFirstOf frame_checks (MessageFails m) k → OptionsAnswer m place max (Err r)
+first_answer m place max r k is first =
     let fails = Fails m place max in
-    rw is (first_after fails C7 (C7b ∷ C8 ∷ C9 ∷ []) C7b (no_octets_lack m ends xs ys has) (first_here fails C7b (C8 ∷ C9 ∷ []) bad), refl)
-
-pub misplaced_answer : (m : List ℕ) (place : Place) (max : ℕ) (r : Refusal) → r ≡ plain C8 → (ends : Ends) (xs ys : List OptionItem) → HasEnds m ends xs ys → (HasBadOption m → ⊥) → HasMisplacedDataOptions m → OptionsAnswer m place max (Err r)
-misplaced_answer m place max r is ends xs ys has good wrong =
-    let fails = Fails m place max in rw is (
-      first_after fails C7 (C7b ∷ C8 ∷ C9 ∷ []) C8 (no_octets_lack m ends xs ys has) (first_after fails C7b (C8 ∷ C9 ∷ []) C8 good (first_here fails C8 (C9 ∷ []) wrong)),
-      refl,
+    rw is (
+      first_earlier fails frame_checks (C9 ∷ []) k (first_as (MessageFails m) fails frame_checks k (fails_at m place max) ((λ x. x), ((λ x. x), ((λ x. x), tt))) first),
+      plain_marker m k first.fault,
     )
 
-pub not_understood_answer : (m : List ℕ) (place : Place) (max : ℕ) (ends : Ends) (xs ys : List OptionItem) (marker : ℕ) → HasEnds m ends xs ys → (HasBadOption m → ⊥) → (HasMisplacedDataOptions m → ⊥) → IsFirstNotUnderstood m marker
-    → OptionsAnswer m place max (Err (record { check = C9; marker = marker }))
-not_understood_answer m place max ends xs ys marker has good right first =
+-- none of these fails
+pub lists_are_good : (m : List ℕ) (e : Envelope) (ends : Ends) (xs ys : List OptionItem) → IsHead m e → HasLists m e ends.dest ends.data xs ys → Pass (MessageFails m) frame_checks
+lists_are_good m e ends xs ys head lists =
+    let has = has_ends m e ends xs ys head lists in
+    lists_pass m ends.dest ends.data xs ys (record { first = has.first; second = has.second }) lists.dest_shapes lists.data_shapes
+    (well m e (head_facts m e head.spells head.whole) (announces_data_options e.flags) refl lists.place)
+
+pub not_understood_answer : (m : List ℕ) (place : Place) (max : ℕ) (marker : ℕ) → Pass (MessageFails m) frame_checks → IsFirstNotUnderstood m marker → OptionsAnswer m place max (Err (record { check = C9; marker = marker }))
+not_understood_answer m place max marker pass first =
     let fails = Fails m place max in (
-      first_after fails C7 (C7b ∷ C8 ∷ C9 ∷ []) C9 (no_octets_lack m ends xs ys has)
-          (first_after fails C7b (C8 ∷ C9 ∷ []) C9 good (first_after fails C8 (C9 ∷ []) C9 right (first_here fails C9 [] (marker, first)))),
+      first_after fails C7 (C7b ∷ C8 ∷ C9 ∷ []) C9 pass.0 (first_after fails C7b (C8 ∷ C9 ∷ []) C9 pass.1.0 (first_after fails C8 (C9 ∷ []) C9 pass.1.1.0 (first_here fails C9 [] (marker, first)))),
       first,
     )
 
-pub options_pass : (m : List ℕ) (place : Place) (max : ℕ) (ends : Ends) (xs ys : List OptionItem) → HasEnds m ends xs ys → (HasBadOption m → ⊥) → (HasMisplacedDataOptions m → ⊥) → (HasOptionNotUnderstood m → ⊥) → OptionsAnswer m place max (Ok ends)
-options_pass m place max ends xs ys has good right understood =
-    ((xs, ys, has), (no_octets_lack m ends xs ys has, (good, (right, (understood, tt)))))
+pub options_pass : (m : List ℕ) (place : Place) (max : ℕ) (ends : Ends) (xs ys : List OptionItem) → HasEnds m ends xs ys → Pass (MessageFails m) frame_checks → (HasOptionNotUnderstood m → ⊥) → OptionsAnswer m place max (Ok ends)
+options_pass m place max ends xs ys has pass understood = ((xs, ys, has), (pass.0, (pass.1.0, (pass.1.1.0, (understood, tt)))))

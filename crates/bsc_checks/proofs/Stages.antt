@@ -9,17 +9,16 @@ use Rattle.bsc_frame.specs.declared.check.Check.{Check}
 use Rattle.bsc_frame.specs.declared.check.Check.TheVariants.{C5, C6, C9, C10, C10b, C10c, C11, C12, C13}
 use Rattle.bsc_frame.specs.Layout.{IsPayload}
 use Rattle.bsc_frame.specs.Checks.{IsFirstOf}
-use Rattle.bsc_frame.specs.Walk.{PayloadFails, payload_checks}
-use Rattle.bsc_frame.proofs.First.{Pass, pass_append, first_later, first_earlier, first_as}
+use Rattle.bsc_frame.specs.Walk.{PayloadAnswers, PayloadFails, payload_checks}
+use Rattle.bsc_frame.proofs.First.{Pass, pass_append, first_later, first_earlier, first_as, first_here, first_after}
 use Rattle.bsc_frame.proofs.Whole.{one_payload}
-use Rattle.bsc_checks.specs.declared.options.Ends.{Ends}
+use Rattle.bsc_frame.specs.declared.lists.Ends.{Ends}
 use Rattle.bsc_checks.specs.declared.place.Place.{Place}
 use Rattle.bsc_checks.specs.declared.refusal.Refusal.{Refusal}
 use Rattle.bsc_checks.specs.Places.{origin_in, is_to_carry, IsInPlace}
 use Rattle.bsc_checks.specs.Table.{Fails, later_checks, IsOutOfPlace}
 use Rattle.bsc_checks.specs.Naks.{IsMarker}
-use Rattle.bsc_checks.specs.Walk.{IsHead, HasEnds, NoneOf, ChecksAnswer, OptionsAnswer, PayloadAnswers, between, from_flags, option_checks}
-use Rattle.bsc_checks.proofs.Firsts.{first_here, first_after}
+use Rattle.bsc_checks.specs.Walk.{IsHead, HasEnds, NoneOf, ChecksAnswer, OptionsAnswer, between, from_flags, option_checks}
 use Rattle.bsc_checks.proofs.Lists.{plain}
 use Rattle.bsc_frame.proofs.Common.{of_payload}
 

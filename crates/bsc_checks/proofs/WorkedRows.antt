@@ -4,6 +4,7 @@ use Rattle.bsc_octets.specs.declared.vmac.Vmac.{Vmac}
 use Rattle.bsc_options.specs.Spelling.{marker_of}
 use Rattle.bsc_frame.specs.declared.check.Check.TheVariants.{C1, C2, C3, C4, C5, C10b, C11, C13}
 use Rattle.bsc_frame.specs.Spelling.{spelling}
+use Rattle.bsc_frame.proofs.First.{first_here, first_after}
 use Rattle.bsc_checks.specs.declared.phase.Phase.TheVariants.{Connected}
 use Rattle.bsc_checks.specs.declared.place.Place.{Place}
 use Rattle.bsc_checks.specs.declared.place.Place.TheVariants.{HubPort, NodeHub}
@@ -12,7 +13,6 @@ use Rattle.bsc_checks.specs.Places.{origin_in, dest_in, is_to_carry}
 use Rattle.bsc_checks.specs.Table.{Fails, checks_of, code_of}
 use Rattle.bsc_checks.specs.Naks.{nak_to}
 use Rattle.bsc_checks.specs.Verdicts.{Judged}
-use Rattle.bsc_checks.proofs.Firsts.{first_here, first_after}
 
 abbrev node_a : Vmac
 node_a = record { 0 = 0x02 ∷ 0 ∷ 0 ∷ 0 ∷ 0 ∷ 0x0A ∷ [] }

@@ -13,8 +13,7 @@ use Rattle.bsc_frame.specs.declared.check.Check.{Check}
 use Rattle.bsc_frame.specs.declared.check.Check.TheVariants.{C1, C2, C3, C4, C5, C7, C7b, C8, C9, C13}
 use Rattle.bsc_frame.specs.Layout.{announces_dest_options, announces_data_options, options_at, IsList}
 use Rattle.bsc_frame.specs.Checks.{IsFirstOf}
-use Rattle.bsc_frame.specs.Walk.{PayloadFails, payload_checks}
-use Rattle.bsc_checks.specs.declared.options.Ends.{Ends}
+use Rattle.bsc_frame.specs.declared.lists.Ends.{Ends}
 use Rattle.bsc_checks.specs.declared.place.Place.{Place}
 use Rattle.bsc_checks.specs.declared.refusal.Refusal.{Refusal}
 use Rattle.bsc_checks.specs.declared.verdict.Verdict.{Verdict}
@@ -94,13 +93,6 @@ marker_refused (item ∷ rest) = if item.must && not (item.kind == 1) then Some 
 abbrev pub OptionsAnswer : List ℕ → Place → ℕ → Result Ends Refusal → Type 0
 OptionsAnswer m place max (Ok ends) = ((xs : List OptionItem) × (ys : List OptionItem) × HasEnds m ends xs ys) × ChecksAnswer option_checks m place max None
 OptionsAnswer m place max (Err refusal) = ChecksAnswer option_checks m place max (Some refusal)
-
--- ---- the payload
-
--- What looking at a payload may answer.
-abbrev pub PayloadAnswers : ℕ → List ℕ → Option Check → Type 0
-PayloadAnswers function p None = AllByRecursion (λ check. ¬ PayloadFails function p check) payload_checks
-PayloadAnswers function p (Some check) = IsFirstOf payload_checks (PayloadFails function p) check
 
 -- ---- the whole
 

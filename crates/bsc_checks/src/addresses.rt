@@ -1,16 +1,9 @@
 //! The addresses at a place: C4, and whether a message is a unicast.
-ghost use Rattle.std.specs.Prelude.{◌≡◌, ◌↔◌, IsTrue};
+ghost use Rattle.std.specs.Prelude.{◌↔◌, IsTrue};
 ghost use Rattle.bsc_checks.specs.Places.{IsUnicast, IsOfConnection, LacksSender, IsForAnother, IsFromAnother, IsNotFor, HasWrongAddresses};
 
 use crate::place::Place;
-use bsc_octets::{Envelope, Vmac, function};
-
-/// Whether two addresses are one.
-pub(crate) fn is_same(v: Vmac, w: Vmac) -> bool
-    ensures { IsTrue result ↔ (v ≡ w) }
-{
-    v == w
-}
+use bsc_octets::{Envelope, Vmac, function, is_same};
 
 /// Whether a message with this Destination is a unicast.
 pub(crate) fn is_unicast(dest: Option<Vmac>) -> bool

@@ -21,11 +21,10 @@ use crate::functions::is_out_of_place;
 use crate::head::read_head;
 use crate::nak::{nak, return_address};
 use crate::option_checks::read_options;
-use crate::payload::payload_fault;
 use crate::place::Place;
 use crate::refusal::Refusal;
 use crate::verdict::Verdict;
-use bsc_frame::{Check, Message, read};
+use bsc_frame::{Check, Message, payload_fault, read};
 use bsc_octets::{Envelope, NoMemory, control, function, results};
 use std::alloc::Global;
 

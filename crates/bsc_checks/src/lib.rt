@@ -3,8 +3,8 @@
 //!
 //! Start at `place` (where and when a message comes) and `verdict`, then `judging`. The checks stand in one
 //! table, `specs/Table.antt`: what each finds wrong, in which order they are made, and which code each gives.
-//! `specs/Verdicts.antt` says which verdict a message has. Each check has a function of its own here, in that
-//! order. `specs/Outcomes.antt` computes the verdict from the octets, for scripts, lines and machines that are
+//! `specs/Verdicts.antt` says which verdict a message has. Each check that octets alone don't decide has a function of
+//! its own here; of the others `bsc_frame` has the rules. `specs/Outcomes.antt` computes the verdict from the octets, for scripts, lines and machines that are
 //! defined as total functions, and `laws` holds the two together. This crate stands on `bsc_frame` for the checks
 //! that octets alone decide, on `bsc_options` and `bsc_octets` below it, and on `arrayvec` for the octets of a NAK.
 #![tactic(auto)]
@@ -16,8 +16,6 @@ mod judging;
 mod laws;
 mod nak;
 mod option_checks;
-mod options;
-mod payload;
 mod phase;
 mod place;
 mod putting;

@@ -1,5 +1,5 @@
 -- The first of some checks that fails.
-use Rattle.std.proofs.Common.{◌≡◌, List, [], ◌∷◌, ◌++◌, sym, ap, subst, ◌∙◌, append_assoc}
+use Rattle.std.proofs.Common.{◌≡◌, Bool, true, false, List, [], ◌∷◌, ◌++◌, refl, sym, ap, subst, ◌∙◌, append_assoc}
 use Rattle.std.specs.List.{AllByRecursion}
 use Rattle.bsc_frame.specs.declared.check.Check.{Check}
 use Rattle.bsc_frame.specs.Checks.{IsFirstOf}
@@ -11,6 +11,19 @@ Pass fails checks = AllByRecursion (λ check. ¬ fails check) checks
 pub pass_append : (fails : Check → Type 0) (xs ys : List Check) → Pass fails xs → Pass fails ys → Pass fails (xs ++ ys)
 pass_append fails [] ys p q = q
 pass_append fails (x ∷ xs) ys p q = (p.0, pass_append fails xs ys p.1 q)
+
+-- the first is the one in front, where that fails
+pub first_here : (fails : Check → Type 0) (k : Check) (rest : List Check) → fails k → IsFirstOf (k ∷ rest) fails k
+first_here fails k rest fault = record { before = []; after = rest; place = refl; earlier = tt; fault = fault }
+
+-- and else it is behind that
+pub first_after : (fails : Check → Type 0) (j : Check) (rest : List Check) (k : Check) → (fails j → ⊥) → IsFirstOf rest fails k → IsFirstOf (j ∷ rest) fails k
+first_after fails j rest k pass first =
+    record { before = j ∷ first.before; after = first.after; place = ap (λ (l : List Check). j ∷ l) first.place; earlier = (pass, first.earlier); fault = first.fault }
+
+-- a test that holds exactly where something is so, and did not
+pub not_so : (P : Type 0) (b : Bool) → (P → b ≡ true) → b ≡ false → P → ⊥
+not_so P b back clear p = let both : true ≡ false = sym (back p) ∙ clear in absurd cc
 
 -- where none of the earlier checks fails, the first of the later ones is the first of all
 pub first_later : (fails : Check → Type 0) (xs ys : List Check) (k : Check) → Pass fails xs → IsFirstOf ys fails k → IsFirstOf (xs ++ ys) fails k

@@ -1,5 +1,5 @@
--- The words of the functions that read a message part by part. No public clause has them.
-use Rattle.std.specs.Prelude.{◌≡◌, ℕ, ◌<◌, ◌≤◌, ◌^◌, ◌⊎◌, IsTrue, Bool, true, false, List, [], ◌∷◌, length, Result, Ok, Err}
+-- The words of the functions that read a message part by part. Of public clauses those alone have them that make some of its checks: `EndsAnswers` and `PayloadAnswers`, with what these are made of.
+use Rattle.std.specs.Prelude.{◌≡◌, ℕ, ◌<◌, ◌≤◌, ◌^◌, ◌⊎◌, IsTrue, Bool, true, false, List, [], ◌∷◌, length, Option, Some, None, Result, Ok, Err}
 use Rattle.std.specs.List.{AllByRecursion}
 use Rattle.bsc_octets.specs.declared.identity.Identity.{Identity}
 use Rattle.bsc_octets.specs.Identities.{identity_octets}
@@ -34,6 +34,11 @@ PayloadFails function p check = ⊥
 -- The checks of a payload, in their order.
 abbrev pub payload_checks : List Check
 payload_checks = C10 ∷ C10b ∷ C10c ∷ C11 ∷ []
+
+-- What looking for a check that fails of a payload may answer.
+abbrev pub PayloadAnswers : ℕ → List ℕ → Option Check → Type 0
+PayloadAnswers function p None = AllByRecursion (λ check. ¬ PayloadFails function p check) payload_checks
+PayloadAnswers function p (Some check) = IsFirstOf payload_checks (PayloadFails function p) check
 
 -- The octets are the payload of this body, and the function is its.
 abbrev pub IsBody : ℕ → List ℕ → Body → Type 0

@@ -31,7 +31,7 @@ pub struct Advert {
 }
 
 /// How many octets an Advertisement has.
-const FIXED_PART: usize = 6;
+pub(crate) const FIXED_PART: usize = 6;
 
 /// The Advertisement that a payload says.
 pub(crate) fn read_advert(p: &[u8]) -> Result<Body, FrameFault>

@@ -40,7 +40,7 @@ pub enum Answer {
 }
 
 /// How many octets an ACK has.
-const ACK_PART: usize = 2;
+pub(crate) const ACK_PART: usize = 2;
 
 /// How many octets a NAK has before its details.
 pub const NAK_PART: usize = 7;

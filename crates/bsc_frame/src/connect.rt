@@ -16,7 +16,7 @@ use crate::fault::FrameFault;
 use bsc_octets::{Identity, NoMemory, Vmac, read_identity};
 
 /// How many octets an identity has.
-const FIXED_PART: usize = 26;
+pub(crate) const FIXED_PART: usize = 26;
 
 /// Who connects, as a payload says it.
 fn read_node(p: &[u8]) -> Result<Identity, Check>

@@ -1,9 +1,10 @@
 //! The two lists of header options of a message: where they end, what can be wrong with them, and what they are.
 ghost use Rattle.std.specs.Prelude.{◌≡◌, ◌≤◌, ℕ, true, List, IfOk, IfSome, IfNone, length};
+ghost use Rattle.bsc_octets.specs.Envelopes.{SpellsEnvelope, HasWholeAddresses};
 ghost use Rattle.bsc_options.specs.declared.item.OptionItem.{OptionItem};
 ghost use Rattle.bsc_options.specs.Reading.{IsCut};
 ghost use Rattle.bsc_frame.specs.Layout.{IsList, announces_dest_options, announces_data_options};
-ghost use Rattle.bsc_frame.specs.Walk.{HasHead, EndsAnswers, FaultAnswers};
+ghost use Rattle.bsc_frame.specs.Walk.{EndsAnswers, FaultAnswers};
 
 use crate::check::Check;
 use bsc_octets::{Envelope, NoMemory, control, function};
@@ -12,11 +13,11 @@ use std::alloc::Global;
 
 /// Where the lists of a message end.
 #[derive(Clone, Copy)]
-pub(crate) struct Ends {
-    /// The place behind the destination options.
-    pub(crate) dest: usize,
+pub struct Ends {
+    /// The place behind the destination options, where the data options begin.
+    pub dest: usize,
     /// The place behind the data options, where the payload begins.
-    pub(crate) data: usize,
+    pub data: usize,
 }
 
 /// Whether destination options are announced.
@@ -64,9 +65,11 @@ fn has_fault(m: &[u8], at: usize, announced: bool) -> bool
     }
 }
 
-/// Where the lists end, where no check of them fails: C7, C7b, C8.
-pub(crate) fn read_ends(m: &[u8], head: &Envelope) -> Result<Ends, Check>
-    requires { HasHead m.now head.now }
+/// Where the lists of a message end that begins with this envelope, or the first of C7, C7b and C8 that fails.
+pub fn read_ends(m: &[u8], head: &Envelope) -> Result<Ends, Check>
+    requires spells { SpellsEnvelope head.now m.now }
+    requires whole { HasWholeAddresses head.now }
+    requires function { head.now.function ≤ 0x0C }
     ensures { EndsAnswers m.now head.now result }
 {
     let dest_announced = announces_dest_options(head.flags);

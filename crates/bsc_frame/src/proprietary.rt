@@ -19,7 +19,7 @@ use byteorder::{BigEndian, ByteOrder};
 use std::alloc::Global;
 
 /// How many octets a Proprietary-Message has before its data.
-const FIXED_PART: usize = 3;
+pub(crate) const FIXED_PART: usize = 3;
 
 /// The Proprietary-Message that a payload says.
 pub(crate) fn read_proprietary(alloc: Global, p: &[u8]) -> Result<Body, FrameFault>

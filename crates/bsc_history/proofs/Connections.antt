@@ -1,9 +1,10 @@
 -- What holds of the joined, of the unleft and of the live connections of every legal history.
-use Rattle.std.proofs.Common.{◌≡◌, ◌≢◌, inl, inr, ℕ, ◌+◌, ◌≤◌, ◌==◌, Bool, true, false, not, ◌&&◌, cond, List, [], ◌∷◌, ◌++◌, length, filter, find, Option, Some, None, is_none, MatchOption, option_to_list, refl, ap, sym, ◌∙◌, arith, length-append, is_some}
+use Rattle.std.proofs.Common.{◌≡◌, ◌≢◌, inl, inr, ℕ, ◌+◌, ◌≤◌, ◌==◌, Bool, true, false, not, ◌&&◌, cond, List, [], ◌∷◌, ◌++◌, length, filter, Option, Some, None, is_none, MatchOption, option_to_list, refl, ap, sym, ◌∙◌, subst, arith, length-append, is_some}
 use Rattle.std.specs.List.{list_any}
 use Rattle.std.specs.Option.{option_or}
 use Rattle.std.proofs.lemmas.Bool.{eq-eqb, eqb-true, both_ways, cases_lt, or_left, or_right, not-false}
 use Rattle.std.proofs.lemmas.List.Elements.{filter-append}
+use Rattle.std.proofs.lemmas.Option.{same_Some}
 use Rattle.bsc_history.specs.declared.limits.About.{About}
 use Rattle.bsc_history.specs.declared.ending.End.{End}
 use Rattle.bsc_history.specs.declared.entry.Entry.{Entry}
@@ -47,6 +48,24 @@ joined_in test H x h = (kept_joined test H x h).0
 pub unleft_joined : (H : List Entry) (x : Connection) → In x (unleft H) → In x (joined H) × (list_any (joins x.number) H ≡ true)
 unleft_joined H x h = kept_joined (λ c after. not (list_any (leaves c) after)) H x h
 
+-- connections by their numbers
+
+-- the one of a number, where each has its own
+pub numbered_so : (x : Connection) (xs : List Connection) → Apart (λ (c : Connection). c.number) xs → In x xs → numbered x.number xs ≡ Some x
+numbered_so x xs apart m = by (numbered x.number xs) (find_says (λ (y : Connection). y.number == x.number) xs)
+  where
+    by : (o : Option Connection) → MatchOption o ((y : Connection) → In y xs → (y.number == x.number) ≡ false) (λ y. In y xs × ((y.number == x.number) ≡ true)) → o ≡ Some x
+    by None says = absurd (both_ways (x.number == x.number) (says x m) (eq-eqb x.number x.number refl))
+    by (Some y) says = ap Some (same_one (λ (c : Connection). c.number) y x xs apart says.0 m (eqb-true y.number x.number says.1))
+
+-- who is found is among those that were looked through
+pub found_in : (c : ℕ) (xs : List Connection) (x : Connection) → numbered c xs ≡ Some x → In x xs × (x.number ≡ c)
+found_in c xs x is = by (numbered c xs) (find_says (λ (y : Connection). y.number == c) xs) is
+  where
+    by : (o : Option Connection) → MatchOption o ((y : Connection) → In y xs → (y.number == c) ≡ false) (λ y. In y xs × ((y.number == c) ≡ true)) → o ≡ Some x → In x xs × (x.number ≡ c)
+    by None says e = cc
+    by (Some y) says e = subst (λ (z : Connection). In z xs × (z.number ≡ c)) (same_Some y x e) (says.0, eqb-true y.number c says.1)
+
 -- numbers of those who joined are apart
 
 pub number_bound : (a : About) (H : List Entry) (x : Connection) → Legal a H → list_any (joins x.number) H ≡ true → x.number ≤ length (joined H)
@@ -70,14 +89,7 @@ joined_apart a H legal = along a (λ G. Apart (λ (c : Connection). c.number) (j
 
 -- the address with which an unleft connection joined
 pub vmac_unleft : (a : About) (H : List Entry) (x : Connection) → Legal a H → In x (unleft H) → vmac_of H x.number ≡ x.who.vmac
-vmac_unleft a H x legal m =
-    let among = (unleft_joined H x m).0 in
-    let p = λ (y : Connection). y.number == x.number in
-    let on : (o : Option Connection) → MatchOption o ((y : Connection) → In y (joined H) → p y ≡ false) (λ y. In y (joined H) × (p y ≡ true)) → vmac_in o ≡ x.who.vmac = λ o. elim o as (λ o. MatchOption o ((y : Connection) → In y (joined H) → p y ≡ false) (λ y. In y (joined H) × (p y ≡ true)) → vmac_in o ≡ x.who.vmac) [
-      | None ↦ λ no. absurd (both_ways (p x) (no x among) (eq-eqb x.number x.number refl))
-      | Some y ↦ λ it. ap (λ (z : Connection). z.who.vmac) (same_one (λ (c : Connection). c.number) y x (joined H) (joined_apart a H legal) it.0 among (eqb-true y.number x.number it.1))
-    ] in
-    on (find p (joined H)) (find_says p (joined H))
+vmac_unleft a H x legal m = ap vmac_in (numbered_so x (joined H) (joined_apart a H legal) (unleft_joined H x m).0)
 
 -- as many joined as are counted
 

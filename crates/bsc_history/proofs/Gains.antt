@@ -21,7 +21,7 @@ use Rattle.bsc_history.proofs.More.{each_entry, sent-more}
 use Rattle.bsc_history.proofs.Named.{meant-unicast}
 
 -- a call adds nothing, or one frame
-one_or_none : (a : About) (H : List Entry) (entered : List (List ℕ)) (c : ℕ) (call : Call) (looks : List Look) → (added_by a H entered c call looks ≡ []) ⊎ ((frame : List ℕ) × (added_by a H entered c call looks ≡ frame ∷ []))
+pub one_or_none : (a : About) (H : List Entry) (entered : List (List ℕ)) (c : ℕ) (call : Call) (looks : List Look) → (added_by a H entered c call looks ≡ []) ⊎ ((frame : List ℕ) × (added_by a H entered c call looks ≡ frame ∷ []))
 unfolding added_by
 one_or_none a H entered c (Forward sender m) looks =
     let o = out_of H sender m in

@@ -1,5 +1,5 @@
 -- A first part of a history, and what stays as the history grows.
-use Rattle.std.proofs.Common.{◌≡◌, ℕ, ◌==◌, Bool, true, ◌||◌, List, [], ◌∷◌, ◌++◌, Option, Some, None, is_some, option_to_list, refl, ap, ◌∙◌, subst, append_assoc, append-nil}
+use Rattle.std.proofs.Common.{◌≡◌, ℕ, ◌==◌, Bool, true, ◌||◌, List, [], ◌∷◌, ◌++◌, Option, Some, None, is_some, option_to_list, refl, ap, sym, ◌∙◌, subst, append_assoc, append-nil}
 use Rattle.std.specs.List.{list_any, AllByRecursion}
 use Rattle.std.specs.Option.{option_or}
 use Rattle.std.proofs.lemmas.List.Elements.{filter-append}
@@ -7,11 +7,11 @@ use Rattle.std.proofs.lemmas.List.Folds.{find-append}
 use Rattle.bsc_history.specs.declared.limits.About.{About}
 use Rattle.bsc_history.specs.declared.entry.Entry.{Entry}
 use Rattle.bsc_history.specs.declared.connection.Connection.{Connection}
-use Rattle.bsc_history.specs.Entries.{Moment, connection_of, is_number, joins, moments_after, own}
+use Rattle.bsc_history.specs.Entries.{Moment, connection_of, is_number, joins, moment, moments_after, own}
 use Rattle.bsc_history.specs.Ends.{joined, joined_where, numbered}
-use Rattle.bsc_history.specs.Outboxes.{vmac_in, vmac_of}
+use Rattle.bsc_history.specs.Outboxes.{added, sent, vmac_in, vmac_of}
 use Rattle.bsc_history.specs.Legality.{Lawful, Legal}
-use Rattle.bsc_history.proofs.More.{filter_true}
+use Rattle.bsc_history.proofs.More.{filter_true, sent-more}
 use Rattle.bsc_history.proofs.Named.{find_one, some_or}
 use Rattle.bsc_history.proofs.Common.{joined-append}
 
@@ -57,3 +57,15 @@ numbered_stays F rest c h =
 
 pub vmac_stays : (F rest : List Entry) (c : ℕ) → list_any (joins c) F ≡ true → vmac_of (F ++ rest) c ≡ vmac_of F c
 vmac_stays F rest c h = ap vmac_in (numbered_stays F rest c h)
+
+-- What entered an outbox is there in each longer history.
+pub sent_grows : (a : About) (F rest : List Entry) (c : ℕ) → (later : List (List ℕ)) × (sent a (F ++ rest) c ≡ sent a F c ++ later)
+sent_grows a F [] c = ([], ap (λ (l : List Entry). sent a l c) (append-nil F) ∙ sym (append-nil (sent a F c)))
+sent_grows a F (e ∷ es) c =
+    let r = sent_grows a (F ++ e ∷ []) es c in
+    let new = added a (moment F e) (sent a F c) c in
+    (new ++ r.0, ap (λ (l : List Entry). sent a l c) (sym (append_assoc F (e ∷ []) es)) ∙ r.1 ∙ ap (λ (l : List (List ℕ)). l ++ r.0) (sent-more a F e c) ∙ append_assoc (sent a F c) new r.0)
+
+-- What had entered before is the first part of what enters.
+pub sent_on : (a : About) (H before later : List Entry) (c : ℕ) → H ≡ before ++ later → (more : List (List ℕ)) × (sent a H c ≡ sent a before c ++ more)
+sent_on a H before later c is = (let g = sent_grows a before later c in (g.0, ap (λ (l : List Entry). sent a l c) is ∙ g.1))

@@ -10,6 +10,7 @@ ghost use Rattle.bsc_history.specs.Laws.{NumbersInOrder, NumbersAreNew, OneHolde
 ghost use Rattle.bsc_history.specs.Laws.{BroadcastJoins, BroadcastToOthersAlone, AddsOnce, FullCloses, FullMisses, OneOfThree};
 ghost use Rattle.bsc_history.specs.Laws.{NoneAfterEnd, JoinTakesOver, RefusalChangesNone, EndStays, EndsByCause, AddsAsNamed};
 ghost use Rattle.bsc_history.specs.Laws.{LiveUntilEnded, WithinCapacity};
+ghost use Rattle.bsc_history.specs.Entering.{EnterByForwards};
 ghost use Rattle.bsc_history.specs.declared.limits.TheConstants.{MOST_CALLERS, MOST_CALLS, MOST_OCTETS, MOST_OUTBOX, MOST_ROWS};
 
 /// Connections are numbered from 1, in the order of joining.
@@ -111,6 +112,12 @@ pub fn until_end()
 /// An outbox never holds more than its capacity, by the newest look at it.
 pub fn within()
     ensures { (a : About) (H : List Entry) → Legal a H → WithinCapacity a H }
+{}
+
+/// Each frame of an outbox entered it by one Forward of a live sender that meant its connection, which was
+/// live, under the sender's address.
+pub fn frames_enter_by_forwards()
+    ensures { (a : About) (H : List Entry) → Legal a H → EnterByForwards a H }
 {}
 
 /// A hub has 1,024 rows at most and outboxes of 1,024 frames, answers 2^52 calls of 2^62 callers, and its outboxes hold 2^30 octets.

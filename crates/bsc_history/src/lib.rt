@@ -30,9 +30,9 @@ pub use ending::End;
 pub use entry::Entry;
 pub use laws::{
     a_hub_has_1024_rows, after_end, broadcast_joins, broadcast_to_others_alone, end_stays,
-    ends_by_cause, full_closes, full_misses, join_takes_over, naming, numbering, numbers_are_new,
-    once, one_holder, one_of_device, one_of_three, refusal_changes_none, unicast_joins,
-    unicast_to_holder_alone, until_end, within,
+    ends_by_cause, frames_enter_by_forwards, full_closes, full_misses, join_takes_over, naming,
+    numbering, numbers_are_new, once, one_holder, one_of_device, one_of_three,
+    refusal_changes_none, unicast_joins, unicast_to_holder_alone, until_end, within,
 };
 pub use limits::{About, Limits, MOST_CALLERS, MOST_CALLS, MOST_OCTETS, MOST_OUTBOX, MOST_ROWS};
 pub use looks::{Look, Looks};

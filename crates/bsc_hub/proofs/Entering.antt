@@ -21,7 +21,7 @@ use Rattle.bsc_history.specs.Outboxes.{added, sent, vmac_of}
 use Rattle.bsc_history.proofs.Gains.{unicast_to_holder_alone}
 use Rattle.bsc_history.proofs.More.{sent-more}
 use Rattle.bsc_history.proofs.Named.{adds_as_named}
-use Rattle.bsc_history.proofs.Parts.{Legal-at, Legal-first}
+use Rattle.bsc_history.proofs.Parts.{Legal-at, Legal-first, sent_grows}
 use Rattle.bsc_turn.specs.declared.pass.Pass.{Pass}
 use Rattle.bsc_turn.specs.Histories.{StartsWith}
 use Rattle.bsc_turn.specs.Passes.{number_of, seen}
@@ -35,14 +35,6 @@ use Rattle.bsc_hub.specs.Passing.{IsCaller, IsOwnAs, Passed, about_of}
 use Rattle.bsc_hub.specs.Unicasts.{IsThereAlone}
 use Rattle.bsc_hub.proofs.Guarding.{address_lifted, parts}
 use Rattle.bsc_history.proofs.Common.{length_entries, take_all as take_front}
-
--- What entered an outbox is there in each longer history.
-pub sent_grows : (a : About) (F rest : List Entry) (c : ℕ) → (later : List (List ℕ)) × (sent a (F ++ rest) c ≡ sent a F c ++ later)
-sent_grows a F [] c = ([], ap (λ (l : List Entry). sent a l c) (append-nil F) ∙ sym (append-nil (sent a F c)))
-sent_grows a F (e ∷ es) c =
-    let r = sent_grows a (F ++ e ∷ []) es c in
-    let new = added a (moment F e) (sent a F c) c in
-    (new ++ r.0, ap (λ (l : List Entry). sent a l c) (sym (append_assoc F (e ∷ []) es)) ∙ r.1 ∙ ap (λ (l : List (List ℕ)). l ++ r.0) (sent-more a F e c) ∙ append_assoc (sent a F c) new r.0)
 
 take_next : (G : List Entry) (e : Entry) (es : List Entry) → take (suc (length G)) (G ++ e ∷ es) ≡ G ++ e ∷ []
 take_next [] e es = refl

@@ -9,7 +9,6 @@ pub mod Sameness
 pub mod Fared
 pub mod Advances
 pub mod Decides
-pub mod Lengths
 pub mod Matches
 pub mod Changes
 pub mod Bounded

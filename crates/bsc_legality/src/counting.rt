@@ -5,8 +5,8 @@ ghost use Rattle.std.specs.Prelude.{◌≡◌, ◌^◌};
 ghost use Rattle.bsc_history.specs.Counting.{appended_in, counts_of, missed_in, one_if, plus};
 ghost use Rattle.bsc_legality.specs.Bounds.{AreAtMost, HasRoute};
 
-use crate::frames::is_broadcast;
 use bsc_history::{Call, Counts, Entry, Reply};
+use bsc_octets::is_broadcast;
 
 /// The counts of no entries.
 pub(crate) const NOTHING: Counts = Counts {

@@ -1,9 +1,10 @@
 //! Whether the history with an entry more is still legal.
 #![tactic(auto)]
 
-ghost use Rattle.std.specs.Prelude.{◌≡◌, ◌≤◌, ◌&&◌, Bool, List, [], ◌∷◌, IfSome, IsTrue, Some, length};
+ghost use Rattle.std.specs.Prelude.{◌≡◌, ◌&&◌, Bool, List, [], ◌∷◌, IfSome, IsTrue, Some};
 ghost use Rattle.std.specs.List.{list_all};
 ghost use Rattle.std.specs.Option.{option_map};
+ghost use Rattle.bsc_octets.specs.Forwarding.{has_route};
 ghost use Rattle.bsc_history.specs.declared.call.Call.TheVariants.{Connect, Forward, Leave};
 ghost use Rattle.bsc_history.specs.declared.looks.Look.{Look};
 ghost use Rattle.bsc_history.specs.Replies.{number_of, rival};
@@ -13,13 +14,12 @@ ghost use Rattle.bsc_legality.specs.Rows.{AreAlone, connection, holder_in, risin
 ghost use Rattle.bsc_legality.specs.Sameness.{same_numbers, same_reply};
 
 use crate::comparing::same_reply;
-use crate::frames::{destination, has_route, is_broadcast, out_length};
 use crate::legality::Legality;
 use crate::matching::{are_looked_at, are_skipped, can_all, have_fared, is_long};
 use crate::row::Row;
 use crate::rows::{can_find, end_in, holder, is_of, is_open, of_device, row_of, vmac_in};
 use bsc_history::{Call, End, Entry, Look, Looks, Refusal, Reply};
-use bsc_octets::{Identity, Vmac};
+use bsc_octets::{Identity, Vmac, destination, has_route, is_broadcast, out_length};
 
 /// The connection that holds the address of `who` with another device.
 fn rival(who: &Identity, held: Option<Row>) -> Option<u64>
@@ -241,7 +241,7 @@ fn serves(
 ) -> bool
     requires rising { IsTrue (rising rows.now) }
     requires alone { AreAlone rows.now }
-    requires whole { 10 ≤ length frame.now }
+    requires route { IsTrue (has_route frame.now) }
     ensures { result ≡ serves outbox rows.now sender frame.now size looks.now reply.now }
 {
     if is_broadcast(frame) {
@@ -319,7 +319,7 @@ impl Legality {
     fn forwards(&self, sender: u64, frame: &[u8], looks: &Looks, reply: &Reply) -> bool
         requires rising { IsTrue (rising self.now.rows.items) }
         requires alone { AreAlone self.now.rows.items }
-        requires whole { 10 ≤ length frame.now }
+        requires route { IsTrue (has_route frame.now) }
         ensures { result ≡ says_due self.now (Forward sender frame.now) looks.now reply.now }
     {
         if self.stopped {

@@ -11,7 +11,6 @@ mod comparing;
 mod counting;
 mod deciding;
 mod following;
-mod frames;
 mod judging;
 mod legality;
 mod matching;

@@ -112,6 +112,27 @@ got-within [] i x h = cc
 got-within (z ∷ xs) zero x h = omega arith
 got-within (z ∷ xs) (suc i) x h = (let k = got-within xs i x h in omega arith)
 
+-- an element of the first of two lists, and the first of the second
+pub got-left : {A : Type 0} (xs ys : List A) (i : ℕ) (x : A) → slice_get xs i ≡ Some x → slice_get (xs ++ ys) i ≡ Some x
+got-left [] ys i x h = cc
+got-left (a ∷ xs) ys zero x h = h
+got-left (a ∷ xs) ys (suc i) x h = got-left xs ys i x h
+
+pub got-split : {A : Type 0} (xs : List A) (y : A) (ys : List A) → slice_get (xs ++ y ∷ ys) (length xs) ≡ Some y
+got-split [] y ys = refl
+got-split (x ∷ xs) y ys = got-split xs y ys
+
+-- of a list with one more at the end: an element of before, or the new one
+pub got-more : {A : Type 0} (xs : List A) (y : A) (i : ℕ) (x : A) → slice_get (xs ++ y ∷ []) i ≡ Some x → (slice_get xs i ≡ Some x) ⊎ ((i ≡ length xs) × (y ≡ x))
+got-more [] y zero x h = inr (refl, same_some y x h)
+got-more [] y (suc i) x h = cc
+got-more (a ∷ xs) y zero x h = inl h
+got-more {A} (a ∷ xs) y (suc i) x h = by (got-more xs y i x h)
+  where
+    by : (slice_get xs i ≡ Some x) ⊎ ((i ≡ length xs) × (y ≡ x)) → (slice_get xs i ≡ Some x) ⊎ ((suc i ≡ suc (length xs)) × (y ≡ x))
+    by (inl e) = inl e
+    by (inr (e, f)) = inr (ap suc e, f)
+
 pub all-right : {A : Type 0} (P : A → Type 0) (xs ys : List A) → AllByRecursion P (xs ++ ys) → AllByRecursion P ys
 all-right P [] ys all = all
 all-right P (x ∷ xs) ys all = all-right P xs ys all.1

@@ -13,6 +13,9 @@ below_both k n = grind (arith, nat_tests)
 pub small_id : (n : ℕ) → n % 65536 < 2 ^ 16
 small_id n = omega arith
 
+pub same_suc : (i j : ℕ) → suc i ≡ suc j → i ≡ j
+same_suc i j h = cc
+
 pub if_ok_maps : {T E : Type 0} {P Q : T → Type 0} (r : Result T E) → ((x : T) → P x → Q x) → IfOk r P → IfOk r Q
 if_ok_maps (Ok x) f p = f x p
 if_ok_maps (Err e) f p = tt

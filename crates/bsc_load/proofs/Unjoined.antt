@@ -22,7 +22,6 @@ use Rattle.bsc_hub.specs.declared.joined.ConnectRefusal.TheVariants.{NoMemory as
 use Rattle.bsc_hub.specs.declared.joined.Joined.{Joined}
 use Rattle.bsc_hub.specs.Calls.{connect_made, connect_told, refused_stamped}
 use Rattle.bsc_hub.specs.Passing.{IsCaller, IsOwnAs, Passed, about_of, found_history}
-use Rattle.bsc_hub.proofs.Entering.{sent_grows}
 use Rattle.bsc_hub.proofs.Guarding.{parts}
 use Rattle.bsc_hub.proofs.Staying.{connect_stays}
 use Rattle.bsc_load.specs.declared.jobs.Cut.{Cut}
@@ -31,6 +30,7 @@ use Rattle.bsc_load.specs.Inner.{AreFirst, CutBoth, LoadWorkerRuns, ShowsBy, Unj
 use Rattle.bsc_load.specs.Peers.{receiver, sender}
 use Rattle.bsc_load.specs.Workers.{calls}
 use Rattle.bsc_load.proofs.Going.{goes_none, goes_one, holds_by}
+use Rattle.bsc_history.proofs.Parts.{sent_grows}
 use Rattle.bsc_history.proofs.Common.{due_none as worn_where}
 
 -- the first of what entered an outbox are the first by each longer history

@@ -4,6 +4,7 @@ use Rattle.std.specs.Prelude.{unwrap_or}
 use Rattle.std.specs.List.{list_all}
 use Rattle.std.proofs.lemmas.List.Folds.{list_all-append}
 use Rattle.bsc_octets.specs.declared.identity.Identity.{Identity}
+use Rattle.bsc_octets.specs.Functions.{is_npdu}
 use Rattle.bsc_connector.specs.declared.side.Side.{Side}
 use Rattle.bsc_connector.specs.declared.side.Side.TheVariants.{Primary, Failover}
 use Rattle.bsc_connector.specs.declared.event.ConnectorEvent.{ConnectorEvent}
@@ -30,7 +31,7 @@ use Rattle.bsc_node.specs.Meeting.{refusing_side, ends_refused, renews, keeps_vm
 use Rattle.bsc_node.proofs.Order.{in_order-brought}
 use Rattle.bsc_node.proofs.Passing.{Passes, pass-in_order, pass-either, pass-nothing, pass-when, pass-found}
 use Rattle.bsc_node.proofs.Told.{outcome-initiating, outcome-accepting}
-use Rattle.bsc_node.proofs.Calm.{is_npdu, is_calm, calm-tick, calm-finish, calm-taken_tick, calm-taken_finish}
+use Rattle.bsc_node.proofs.Calm.{is_calm, calm-tick, calm-finish, calm-taken_tick, calm-taken_finish}
 use Rattle.std.proofs.lemmas.Bool.{and_from as both}
 
 abbrev pub is_quiet_action : Action → Bool

@@ -1,7 +1,7 @@
 //! The message as the hub passes it on.
 #![tactic(auto)]
 
-ghost use Rattle.std.specs.Prelude.{◌≡◌, ◌≤◌, IsTrue, IfOk, length, take, drop};
+ghost use Rattle.std.specs.Prelude.{◌≡◌, ◌≤◌, ◌+◌, IsTrue, IfOk, length, take, drop};
 ghost use Rattle.bsc_octets.specs.Envelopes.{SpellsEnvelope};
 ghost use Rattle.bsc_octets.specs.Forwarding.{out, destination, envelope_out, has_route, is_broadcast, flags_out, kept};
 
@@ -12,12 +12,55 @@ use crate::octets::Octets;
 use crate::vmac::Vmac;
 use std::alloc::Global;
 
+/// Whether the message has a Destination, whole, and no Originating address.
+pub fn has_route(m: &[u8]) -> bool
+    ensures { result ≡ has_route m.now }
+{
+    m.len() >= 10 && m[1] / 4 % 2 == 1 && !(m[1] / 8 % 2 == 1)
+}
+
+/// The Destination of a message that has one and no Originating address.
+fn destination_in(m: &[u8]) -> Vmac
+    requires { 10 ≤ length m.now }
+    ensures { result ≡ destination m.now }
+{
+    vmac_at(m, 4)
+}
+
 /// The Destination of a message that is to be forwarded.
 pub fn destination(m: &[u8]) -> Vmac
     requires { IsTrue (has_route m.now) }
     ensures { result ≡ destination m.now }
 {
-    vmac_at(m, 4)
+    destination_in(m)
+}
+
+/// Whether that is the broadcast address.
+pub fn is_broadcast(m: &[u8]) -> bool
+    requires { 10 ≤ length m.now }
+    ensures { result ≡ is_broadcast m.now }
+{
+    destination_in(m) == Vmac::BROADCAST
+}
+
+/// An address has six octets.
+fn has_six(address: &Vmac)
+    ensures { length address.now.0 ≡ 6 }
+{
+    let _six = address.0;
+}
+
+/// How many octets are passed on of a message from a sender at `from`: six more of a broadcast, as many of a unicast.
+pub fn out_length(m: &[u8], from: Vmac) -> usize
+    requires { 10 ≤ length m.now }
+    ensures { result ≡ length (out m.now from) }
+{
+    has_six(&from);
+    if is_broadcast(m) {
+        m.len() + 6
+    } else {
+        m.len()
+    }
 }
 
 /// The flags with the Originating address announced, and with a unicast's Destination no longer.

@@ -1,7 +1,7 @@
 //! Virtual addresses.
 #![tactic(auto)]
 
-ghost use Rattle.std.specs.Prelude.{◌≡◌};
+ghost use Rattle.std.specs.Prelude.{◌≡◌, ◌↔◌, IsTrue};
 ghost use Rattle.bsc_octets.specs.Addresses.{random48_of};
 
 /// A VMAC: the virtual address of a BACnet/SC node, six octets as they stand in a message (Annex AB,
@@ -15,6 +15,13 @@ impl Vmac {
 
     /// The address that is reserved and names no node.
     pub const ZERO: Vmac = Vmac([0; 6]);
+}
+
+/// Whether two addresses are one.
+pub fn is_same(v: Vmac, w: Vmac) -> bool
+    ensures { IsTrue result ↔ (v ≡ w) }
+{
+    v == w
 }
 
 /// The Random-48 VMAC of the random word `w` (Annex H, "EUI-48 and Random-48 VMAC Address"): its low 48 bits, the most significant octet

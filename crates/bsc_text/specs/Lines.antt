@@ -45,8 +45,11 @@ pub record BeginsLine (n : ℕ) (octets : List ℕ) : Type 0 where
   pub no_lf : has_no_lf (take n octets) ≡ true
   pub cut : take (n + 1) octets ≡ take n octets ++ lf ∷ []
 
--- A piece that stands after `before` octets is too big where its line is too long, or where it goes past the longest
--- script.
+-- Whether a piece that stands after `before` octets is past these limits: its line has more octets than a line may have, or
+-- it goes past the most octets of all.
+abbrev pub is_past : (in_line in_all before : ℕ) → List ℕ → Bool
+is_past in_line in_all before piece = nat_lt in_line (length (line_in piece)) || nat_lt in_all (before + length piece)
+
+-- whether a piece of a script that stands after `before` octets is too big: it is past the limits of a script
 abbrev pub is_too_big : ℕ → List ℕ → Bool
-is_too_big before piece =
-    nat_lt MAX_LINE_LEN (length (line_in piece)) || nat_lt MAX_INPUT_LEN (before + length piece)
+is_too_big before piece = is_past MAX_LINE_LEN MAX_INPUT_LEN before piece

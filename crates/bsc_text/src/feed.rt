@@ -3,15 +3,15 @@
 //! A `Feed` reads a source a chunk at a time, and cuts what it has read into lines: a caller takes lines
 //! until no whole one is left, and only then asks for the next chunk. It never holds more than one chunk and
 //! one line. What a line is, and which lines are too big, stands in `specs/Lines.antt`.
-ghost use Rattle.std.specs.Prelude.{◌≡◌, ◌≢◌, ◌+◌, ◌≤◌, if◌then◌else◌, ℕ, List, [], ◌∷◌, ◌++◌, length, take, drop, slice_index};
-ghost use Rattle.std.specs.Prelude.{MatchOption, true, false, ◌⊎◌, ◌<◌};
+ghost use Rattle.std.specs.Prelude.{◌≡◌, ◌≢◌, ◌+◌, ◌≤◌, if◌then◌else◌, ℕ, length, take, drop};
+ghost use Rattle.std.specs.Prelude.{true, false, ◌⊎◌, ◌<◌};
 ghost use Rattle.bsc_text.specs.declared.bounds.TheConstants.{CHUNK_LEN, MAX_INPUT_LEN, MAX_LINE_LEN};
-ghost use Rattle.bsc_text.specs.Lines.{line_in, is_too_big, has_no_lf, BeginsLine};
+ghost use Rattle.bsc_text.specs.Lines.{is_too_big, has_no_lf, BeginsLine};
 
 use crate::bounds::{CHUNK_LEN, MAX_INPUT_LEN, MAX_LINE_LEN};
+use crate::pieces::{first_lf, is_too_big, line_in};
 use bsc_octets::{NoMemory, Octets};
 use bsc_outside::{Failed, Source};
-use memchr::memchr;
 use std::alloc::Global;
 use std::mem;
 
@@ -52,36 +52,6 @@ pub enum NextLine {
     NoMemory,
 }
 
-/// The octets in front of the last one, where the last one is `last`.
-fn before_last(octets: &[u8], last: u8) -> Option<&[u8]>
-    ensures { MatchOption result
-        ((front : List ℕ) → octets.now ≢ front ++ last ∷ [])
-        (λ front. octets.now ≡ front.now ++ last ∷ []) }
-{
-    octets.strip_suffix(&[last])
-}
-
-/// The line that a piece holds: the piece without its LF and the one CR before it.
-fn line_in(piece: &[u8]) -> &[u8]
-    ensures { result.now ≡ line_in piece.now }
-{
-    match before_last(piece, b'\n') {
-        None => piece,
-        Some(front) => match before_last(front, b'\r') {
-            None => front,
-            Some(line) => line,
-        },
-    }
-}
-
-/// Whether a piece that stands after `before` octets is too big.
-fn is_too_big(before: u64, piece: &[u8]) -> bool
-    requires { before ≤ MAX_INPUT_LEN }
-    ensures { result ≡ is_too_big before piece.now }
-{
-    line_in(piece).len() > MAX_LINE_LEN || MAX_INPUT_LEN - before < piece.len() as u64
-}
-
 /// Whether `len` octets without an LF are already too many: then each piece that begins with them is too big.
 fn cannot_fit(before: u64, len: usize) -> bool
     requires { before ≤ MAX_INPUT_LEN }
@@ -89,28 +59,6 @@ fn cannot_fit(before: u64, len: usize) -> bool
     ensures may { result ≡ false → (len ≤ MAX_LINE_LEN + 1) × (before + len ≤ MAX_INPUT_LEN) }
 {
     len > MAX_LINE_LEN + 1 || MAX_INPUT_LEN - before < len as u64
-}
-
-/// How many octets stand in front of the first LF; all of them, where there is none.
-fn lf_at(octets: &[u8]) -> usize
-    ensures within { result ≤ length octets.now }
-    ensures before { (k : ℕ) → k < result → slice_index octets.now k ≢ 10 }
-    ensures found { result < length octets.now → slice_index octets.now result ≡ 10 }
-{
-    match memchr(b'\n', octets) {
-        Some(n) => n,
-        None => octets.len(),
-    }
-}
-
-/// How many octets stand in front of the first LF, where there is one.
-fn first_lf(octets: &[u8]) -> Option<usize>
-    ensures { MatchOption result
-        (has_no_lf octets.now ≡ true)
-        (λ n. BeginsLine n octets.now) }
-{
-    let n = lf_at(octets);
-    if n < octets.len() { Some(n) } else { None }
 }
 
 /// The octets of a chunk from one place to another.

@@ -1,8 +1,8 @@
 //! Text by lines and words: where it is cut, and what a word may be.
 //!
-//! Start at `feed`, which gives the lines of a source, and at `words`, which gives the words of a line;
-//! `grammar` says which words are numbers, addresses, devices, octets and names. Scripts of every kind are
-//! read by these.
+//! Start at `feed`, which gives the lines of a source, and at `words`, which gives the words of a line. `pieces` says
+//! where the pieces of a text end, which line a piece holds, and whether it is too big; `grammar` says which words are numbers, addresses,
+//! devices, octets and names. Scripts of every kind are read by these.
 #![tactic(auto)]
 
 mod bounds;
@@ -10,6 +10,7 @@ mod feed;
 mod grammar;
 mod laws;
 mod octets;
+mod pieces;
 mod text;
 mod words;
 
@@ -20,5 +21,6 @@ pub use grammar::{
 };
 pub use laws::lines_have_140_000_octets;
 pub use octets::{OctetsFault, copy_of, read_octets};
+pub use pieces::{first_lf, is_past, is_too_big, lf_at, line_in};
 pub use text::Text;
 pub use words::{begins_comment, joined, next_word};

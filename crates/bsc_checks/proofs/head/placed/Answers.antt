@@ -1,5 +1,5 @@
 use Rattle.std.proofs.Common.{rules, refl}
-use Rattle.bsc_checks.proofs.Firsts.{not_so}
+use Rattle.bsc_frame.proofs.First.{not_so}
 use Rattle.bsc_checks.proofs.HeadParts.{is_head, wrong_in, wrong_of}
 use Rattle.bsc_checks.proofs.head.placed.Goals as goal
 

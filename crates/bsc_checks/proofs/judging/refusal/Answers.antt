@@ -1,4 +1,4 @@
-use Rattle.bsc_checks.proofs.Firsts.{not_so}
+use Rattle.bsc_frame.proofs.First.{not_so}
 use Rattle.bsc_checks.proofs.Stages.{reserved_first, later_first, out_first, from_flags_pass}
 use Rattle.bsc_checks.proofs.judging.refusal.Goals as goal
 

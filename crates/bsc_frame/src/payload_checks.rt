@@ -1,4 +1,5 @@
-//! The payload of a message: C10 to C11, by the table of functions and payloads.
+//! What can be wrong with a payload: C10 to C11, by the table of functions and payloads. Nothing is read and no memory is
+//! taken; who only judges a message asks here.
 //!
 //! | function | octets at least | more may follow |
 //! |---|---|---|
@@ -15,11 +16,13 @@ ghost use Rattle.bsc_octets.specs.Addresses.{broadcast, zero_vmac};
 ghost use Rattle.bsc_octets.specs.Envelopes.{vmac_at};
 ghost use Rattle.bsc_frame.specs.PayloadChecks.{result_code, expects_payload, fixed_part, takes_rest, IsMissing, IsBelowFixedPart};
 ghost use Rattle.bsc_frame.specs.PayloadChecks.{IsBeyondFixedPart, IsOutOfRange};
-ghost use Rattle.bsc_checks.specs.Walk.{PayloadAnswers};
+ghost use Rattle.bsc_frame.specs.Walk.{PayloadAnswers};
 
-use crate::addresses::is_same;
-use bsc_frame::{Check, NAK_PART};
-use bsc_octets::{Vmac, function, results};
+use crate::answer::{ACK_PART, NAK_PART};
+use crate::check::Check;
+use crate::text::is_utf8;
+use crate::{advert, connect, proprietary};
+use bsc_octets::{Vmac, function, is_same, results};
 
 /// The result code of a BVLC-Result.
 fn result_code(p: &[u8]) -> u8
@@ -51,11 +54,11 @@ fn fixed_part(function: u8, p: &[u8]) -> usize
 {
     match function {
         function::BVLC_RESULT if result_code(p) == results::NAK => NAK_PART,
-        function::BVLC_RESULT => 2,
+        function::BVLC_RESULT => ACK_PART,
         function::ENCAPSULATED_NPDU => 1,
-        function::ADVERTISEMENT => 6,
-        function::CONNECT_REQUEST | function::CONNECT_ACCEPT => 26,
-        function::PROPRIETARY_MESSAGE => 3,
+        function::ADVERTISEMENT => advert::FIXED_PART,
+        function::CONNECT_REQUEST | function::CONNECT_ACCEPT => connect::FIXED_PART,
+        function::PROPRIETARY_MESSAGE => proprietary::FIXED_PART,
         _ => 0,
     }
 }
@@ -91,13 +94,6 @@ fn is_beyond_fixed_part(function: u8, p: &[u8]) -> bool
     ensures { IsTrue result ↔ IsBeyondFixedPart function p.now }
 {
     !takes_rest(function, p) && fixed_part(function, p) < p.len()
-}
-
-/// Whether the octets are UTF-8.
-fn is_utf8(octets: &[u8]) -> bool
-    ensures { IsTrue result ↔ IsUtf8 octets.now }
-{
-    str::from_utf8(octets).is_ok()
 }
 
 /// Whether a BVLC-Result is neither an ACK nor a NAK, or the details of a NAK are not UTF-8.
@@ -153,8 +149,8 @@ fn is_out_of_range(function: u8, p: &[u8]) -> bool
     }
 }
 
-/// The first of C10 to C11 that fails.
-pub(crate) fn payload_fault(function: u8, p: &[u8]) -> Option<Check>
+/// The first of C10 to C11 that fails of the payload of a function.
+pub fn payload_fault(function: u8, p: &[u8]) -> Option<Check>
     ensures { PayloadAnswers function p.now result }
 {
     if is_missing(function, p) {

@@ -1,6 +1,6 @@
 use Rattle.std.proofs.Common.{◌∙◌, ap, sym, cond, Bool, length, ◌+◌}
-use Rattle.bsc_legality.proofs.Lengths.{out_long}
-use Rattle.bsc_legality.proofs.frames.out_length.Goals as goal
+use Rattle.bsc_octets.proofs.Lengths.{out_long}
+use Rattle.bsc_octets.proofs.forwarding.out_length.Goals as goal
 
 pub returns-then-is_broadcast : goal.returns-then-is_broadcast
 returns-then-is_broadcast c =

@@ -2,7 +2,7 @@
 use Rattle.std.proofs.Common.{◌++◌, ℕ, List, [], ◌∷◌, sym, ◌∙◌, ap}
 use Rattle.bsc_text.specs.Lines.{line_in}
 use Rattle.bsc_text.proofs.Reading.{line_in-stays, line_in-lf, line_in-crlf}
-use Rattle.bsc_audit.proofs.cutting.line_in.Goals as goal
+use Rattle.bsc_text.proofs.pieces.line_in.Goals as goal
 
 pub returns-in-None-clause-line : goal.returns-in-None-clause-line
 returns-in-None-clause-line c = sym (line_in-stays c.args.piece.now c.in-None.ensures)

@@ -3,7 +3,7 @@ use Rattle.std.proofs.Common.{sym, ap, ◌∙◌}
 use Rattle.std.proofs.lemmas.List.{take_all}
 use Rattle.bsc_text.specs.Lines.{has_no_lf}
 use Rattle.bsc_text.proofs.Cutting.{has_no_lf-before}
-use Rattle.bsc_audit.proofs.cutting.first_lf.Goals as goal
+use Rattle.bsc_text.proofs.pieces.first_lf.Goals as goal
 use Rattle.bsc_lemmas.proofs.Lists.{line_cut as cut}
 
 pub returns-then-n-octets : goal.returns-then-n-octets

@@ -1,6 +1,6 @@
 -- `ends_is` says when a list ends with another.
 use Rattle.std.proofs.Common.{[], ◌∷◌}
-use Rattle.bsc_audit.proofs.cutting.before_last.Goals as goal
+use Rattle.bsc_text.proofs.pieces.before_last.Goals as goal
 use Rattle.bsc_lemmas.proofs.Lists.{before-end}
 
 pub returns : goal.returns

@@ -1,8 +1,8 @@
 use Rattle.std.proofs.Common.{[], ◌∷◌}
 use Rattle.bsc_frame.specs.declared.check.Check.TheVariants.{C10, C10b, C10c, C11}
 use Rattle.bsc_frame.specs.Walk.{PayloadFails}
-use Rattle.bsc_checks.proofs.Firsts.{first_here, first_after, not_so}
-use Rattle.bsc_checks.proofs.payload.payload_fault.Goals as goal
+use Rattle.bsc_frame.proofs.First.{first_here, first_after, not_so}
+use Rattle.bsc_frame.proofs.payload_checks.payload_fault.Goals as goal
 
 pub returns-then-is_missing : goal.returns-then-is_missing
 returns-then-is_missing c = first_here (PayloadFails c.args.function c.args.p.now) C10 (C10b ∷ C10c ∷ C11 ∷ []) (c.is_missing.ensures.0 c.if-is_missing.true)
