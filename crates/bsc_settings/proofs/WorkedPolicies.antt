@@ -1,12 +1,16 @@
 -- Policies of documents, worked by hand.
-use Rattle.std.proofs.Common.{◌≡◌, ℕ, pos, true, false, List, [], ◌∷◌, codes, replicate, Some, None, refl}
+use Rattle.std.proofs.Common.{◌≡◌, ℕ, pos, true, false, List, [], ◌∷◌, codes, replicate, Some, None, refl, inl, inr}
+use Rattle.std.proofs.lemmas.Bool.{false≢true}
 use Rattle.hex.specs.Hex.{decode_pairs}
 use Rattle.uuid.proofs.OnLiterals.{uuid_on_literals}
 use Rattle.toml.specs.Data.{Data, Items, Members, member as entry, no_members, item, no_items, array, table, string, integer}
 use Rattle.bsc_policy.specs.declared.member.Member.{Member}
 use Rattle.bsc_settings.specs.declared.key.KeyName.TheVariants.{HubVmac, PolicyMember, PolicyRule, Unknown}
 use Rattle.bsc_settings.specs.Groups.{allows_of, is_group, is_group_or_all}
-use Rattle.bsc_settings.specs.Policies.{member_said, members_in, rule_said}
+use Rattle.bsc_settings.specs.declared.refusal.EntryFault.TheVariants as entry_fault
+use Rattle.bsc_settings.specs.declared.refusal.PolicyRefusal.TheVariants as refused
+use Rattle.bsc_settings.specs.Policies.{are_members, member_said, members_in, rule_said}
+use Rattle.bsc_settings.specs.Refusals.{IsFirst, IsWhy, member_fault, rule_fault}
 use Rattle.bsc_settings.specs.Faults.{fault_of}
 
 -- ---- groups
@@ -148,3 +152,45 @@ other_key_of_a_rule = refl
 
 no_policy : fault_of (entry (codes "policy") (integer (pos 1)) no_members) ≡ Some Unknown
 no_policy = refl
+
+-- ---- the first entry at fault
+
+-- the third entry is the first at fault, and the fourth isn't named
+first_of_four : IsFirst member_said are_members member_fault (a ∷ b ∷ integer (pos 1) ∷ integer (pos 2) ∷ []) 3 entry_fault.NoTable
+unfolding decode_pairs uuid_on_literals
+first_of_four = record {
+  before = a ∷ b ∷ [];
+  value = integer (pos 1);
+  rest = integer (pos 2) ∷ [];
+  taken = the_member 0xAA 0x0A ∷ the_member 0xBB 0x0B ∷ [];
+  whole = refl;
+  place = refl;
+  said = refl;
+  fine = refl;
+  is_wrong = refl;
+}
+
+-- who has the address of the first entry is at fault for that
+has_the_address_of_the_first : member_fault (the_member 0xAA 0x0A ∷ []) at_a ≡ Some (entry_fault.Twice 1)
+unfolding decode_pairs uuid_on_literals
+has_the_address_of_the_first = refl
+
+-- of several keys without a value the first in the order of the rows is named
+device_first : member_fault [] (table no_members) ≡ Some entry_fault.Device
+device_first = refl
+
+vmac_next : member_fault [] (written (codes "aaaaaaaaaaaaaaaaaaaaaaaaaaaaaaaa") (codes "000000000000") (codes "")) ≡ Some entry_fault.Vmac
+unfolding decode_pairs uuid_on_literals
+vmac_next = refl
+
+no_fault : member_fault [] a ≡ None
+unfolding decode_pairs uuid_on_literals
+no_fault = refl
+
+rule_of_no_side : rule_fault [] (ruled (codes "deny") (codes "ctl") (codes "")) ≡ Some entry_fault.To
+rule_of_no_side = refl
+
+-- where the members are at fault no rule is named
+members_before_rules : IsWhy (entry (codes "member") (integer (pos 1)) (entry (codes "rule") (integer (pos 1)) no_members)) refused.RuleList → ⊥
+members_before_rules (inl same) = cc
+members_before_rules (inr both) = false≢true both.0

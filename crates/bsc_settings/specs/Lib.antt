@@ -11,3 +11,4 @@ pub mod Names
 pub mod Rows
 pub mod Steps
 pub mod Lists
+pub mod Refusals

@@ -1,7 +1,9 @@
 -- How the lists of a policy are read: one value after the other.
-use Rattle.std.specs.Prelude.{◌≡◌, ⊤, Bool, List, [], ◌∷◌, ◌++◌, Option, Some, None, option_and_then}
+use Rattle.std.specs.Prelude.{◌≡◌, ⊤, ℕ, Bool, List, [], ◌∷◌, ◌++◌, Option, Some, None, option_and_then}
 use Rattle.toml.specs.Data.{Data}
 use Rattle.bsc_settings.specs.declared.key.KeyName.{KeyName}
+use Rattle.bsc_settings.specs.declared.refusal.EntryFault.{EntryFault}
+use Rattle.bsc_settings.specs.declared.refusal.PolicyRefusal.{PolicyRefusal}
 use Rattle.bsc_settings.specs.declared.unread.Unread.{Unread}
 use Rattle.bsc_settings.specs.declared.unread.Unread.TheVariants.{Refused, NoMemory}
 use Rattle.bsc_settings.specs.Names.{key_of}
@@ -35,3 +37,12 @@ IsForKey key NoMemory = ⊥
 abbrev pub IsUnread : {T : Type 0} → Unread → KeyName → Option T → Type 0
 IsUnread (Refused refusal) key said = (key_of refusal ≡ key) × (said ≡ None)
 IsUnread NoMemory key said = ⊤
+
+-- A policy that isn't read is refused so; want of memory tells nothing.
+abbrev pub Tells : (PolicyRefusal → Type 0) → Unread → Type 0
+Tells IsSo (Refused refusal) = IsSo refusal
+Tells IsSo NoMemory = ⊤
+
+-- A refusal names the entry with this number, of which this is wrong.
+abbrev pub NamesEntry : (ℕ → EntryFault → PolicyRefusal) → ℕ → Option EntryFault → PolicyRefusal → Type 0
+NamesEntry names number wrong refusal = (fault : EntryFault) × (refusal ≡ names number fault) × (wrong ≡ Some fault)

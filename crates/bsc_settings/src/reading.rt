@@ -12,6 +12,7 @@ ghost use Rattle.bsc_settings.specs.Faults.{fault_in, fault_of, policy_fault, Na
 ghost use Rattle.bsc_settings.specs.Fields.{node_fields_of, values_of, IsSaidBy};
 ghost use Rattle.bsc_settings.specs.Names.{key_of};
 ghost use Rattle.bsc_settings.specs.Policies.{parts_in, parts_of};
+ghost use Rattle.bsc_settings.specs.Refusals.{IsWhy};
 ghost use Rattle.bsc_settings.specs.Steps.{TableSays, IsLate};
 
 use crate::fault::SettingFault;
@@ -86,7 +87,8 @@ fn policy_in(alloc: Global, doc: &Table) -> Result<Option<Arc<Policy>>, SettingF
 
 /// Why the policy of a document is refused, where it is.
 fn refusal_in(alloc: Global, doc: &Table) -> Option<PolicyRefusal>
-    ensures { IfSome result (λ r. policy_fault (policy_of (table_view doc.now)) ≡ Some (key_of r)) }
+    ensures key { IfSome result (λ r. policy_fault (policy_of (table_view doc.now)) ≡ Some (key_of r)) }
+    ensures why { IfSome result (λ r. (table : Members) × (policy_of (table_view doc.now) ≡ Some table) × IsWhy table r) }
 {
     let table = policy_of(doc)?;
     match read_policy(alloc, table) {
@@ -167,7 +169,9 @@ pub fn read_settings(alloc: Global, text: &[u8]) -> Result<Settings, SettingFaul
 /// is None where the document has no policy or a good one, and where it isn't TOML or memory runs out.
 pub fn refusal_of(alloc: Global, text: &[u8]) -> Option<PolicyRefusal>
     // It names the list that is at fault.
-    ensures { IfSome result (λ r. (doc : Members) × IsDocument text.now doc × (policy_fault (policy_of doc) ≡ Some (key_of r))) }
+    ensures key { IfSome result (λ r. (doc : Members) × IsDocument text.now doc × (policy_fault (policy_of doc) ≡ Some (key_of r))) }
+    // It names the first entry of it that is at fault, and what is wrong with that.
+    ensures why { IfSome result (λ r. (doc : Members) × (table : Members) × IsDocument text.now doc × (policy_of doc ≡ Some table) × IsWhy table r) }
 {
     match toml::table_from_slice(alloc, text) {
         Ok(doc) => refusal_in(alloc, &doc),
