@@ -15,6 +15,7 @@ use Rattle.bsc_node_run.specs.declared.halt.Halt.{Halt}
 use Rattle.bsc_node_run.specs.declared.run_end.RunEnd.{RunEnd}
 use Rattle.bsc_node_run.specs.declared.run_end.RunEnd.TheVariants.{Finished}
 use Rattle.bsc_node_run.specs.Drawing.{Drawing, GoesDrawing, at_rest}
+use Rattle.bsc_node_run.specs.Resting.{HasRested}
 use Rattle.bsc_node_run.specs.Running.{Run}
 use Rattle.bsc_node_run.specs.Scripts.{script_of, wish_of}
 use Rattle.bsc_node_run.specs.Stopping.{RunFails}
@@ -28,9 +29,11 @@ use Rattle.bsc_node_laws.proofs.Beside.{Beside, Both, beside}
 use Rattle.bsc_node_laws.proofs.Courses.{lifted}
 use Rattle.bsc_node_laws.proofs.Lonely.{lonely}
 use Rattle.bsc_node_laws.proofs.Mapping.{Maps, run_map}
+use Rattle.bsc_node_laws.proofs.Resting.{rests_lifted, rests_map}
 use Rattle.bsc_node_laws.proofs.Saying.{ends_as_told, said}
 use Rattle.bsc_node_laws.proofs.Stopping.{fails_lifted}
 use Rattle.bsc_node_laws.proofs.StopsMapping.{fails_map}
+use Rattle.bsc_node_links.proofs.Walking.{log_alone}
 use Rattle.bsc_node_command.specs.declared.running_node.RunningNode.{RunningNode}
 use Rattle.bsc_node_command.specs.Comes.{AnswersAt, made_by}
 
@@ -54,10 +57,6 @@ log_beside b = record { node = b.log; words = b.core.words; awaits = b.core.awai
 log_draws : {N W : Type 0} (goes : N → ℕ → NodeEvent → List Action → N → Type 0) (drawn : NodeEvent → W → W → Type 0) (a : Made)
     → Maps (Both (GoesDrawing goes drawn) a) (GoesDrawing (GoesAsDefined a) drawn) log_beside
 log_draws goes drawn a n m t e actions (g, h) = (h, g.1, g.2)
-
--- and as a log alone
-log_alone : {W : Type 0} (drawn : NodeEvent → W → W → Type 0) (a : Made) → Maps (GoesDrawing (GoesAsDefined a) drawn) (GoesAsDefined a) (λ (d : Drawing Log W). d.node)
-log_alone drawn a n m t e actions g = g.0
 
 module _ {L W : Type 0} (talk : L → Option (List Said)) (drawn : NodeEvent → W → W → Type 0) where
   -- A run of a node that was made so is a run of the definition, with the same words.
@@ -88,6 +87,17 @@ module _ {L W : Type 0} (talk : L → Option (List Said)) (drawn : NodeEvent →
       (log_draws AnswersAt drawn (made_by v)) talk (is_some v.direct_port) v.turns lines (beside (at_rest first u) []) c c' b b' l l' t t'
       (fails_lifted (GoesDrawing AnswersAt drawn) (made_by v) (λ n (M : Log). NodeStands n.node.node (made_by v) M) (drawing_steps drawn (made_by v))
       talk (is_some v.direct_port) v.turns lines (asked_of script lines reads) (at_rest first u) c c' b b' l l' t t' made run)
+
+  -- and however it ended, it waited between its turns as the definition's run does
+  pub rests_by_definition : (v : NodeSettings) (script : List ℕ) (lines : List Due) (first : RunningNode) (u : W) (c : Dialling L) (b : Option (List ℕ)) (l : Admitting L) (t t' r r' : Option (List ℕ))
+      → script_of script ≡ Ok (map wish_of lines) → NodeStands first.node (made_by v) []
+      → HasRested (GoesDrawing AnswersAt drawn) talk (is_some v.direct_port) lines (run_moment (at_rest first u) c b l t) t' r r'
+      → HasRested (GoesDrawing (GoesAsDefined (made_by v)) drawn) talk (is_some v.direct_port) lines (run_moment (at_rest [] u) c b l t) t' r r'
+  rests_by_definition v script lines first u c b l t t' r r' reads made rests =
+      rests_map (Both (GoesDrawing AnswersAt drawn) (made_by v)) (GoesDrawing (GoesAsDefined (made_by v)) drawn) log_beside
+      (log_draws AnswersAt drawn (made_by v)) talk (is_some v.direct_port) lines (beside (at_rest first u) []) c b l t t' r r'
+      (rests_lifted (GoesDrawing AnswersAt drawn) (made_by v) (λ n (M : Log). NodeStands n.node.node (made_by v) M) (drawing_steps drawn (made_by v))
+      talk (is_some v.direct_port) lines (asked_of script lines reads) (at_rest first u) c b l t t' r r' made rests)
 
   -- whatever words it draws
   alone_of : (a : Made) (listens : Bool) (end : RunEnd) (turns : ℕ) (lines : List Due) (u u' : W) (last : Log) (c c' : Dialling L) (l l' : Admitting L) (t t' : Option (List ℕ)) (b b' : Option (List ℕ))

@@ -1,9 +1,10 @@
 -- What holds from an earlier state on.
-use Rattle.std.proofs.Common.{◌≤◌, ℕ, List, Option, inl, inr}
+use Rattle.std.proofs.Common.{◌≡◌, ◌≤◌, ℕ, List, Option, inl, inr, arith}
+use Rattle.std.specs.Prelude.{◌⊎◌}
 use Rattle.bsc_edge.specs.declared.said.Said.{Said}
 use Rattle.bsc_settings.specs.declared.node.NodeSettings.{NodeSettings}
 use Rattle.bsc_node.specs.declared.node_event.NodeEvent.{NodeEvent}
-use Rattle.bsc_node_command.specs.Settled.{Unread}
+use Rattle.bsc_node_command.specs.Settled.{IsSettled, Unread}
 use Rattle.bsc_node_command.specs.Comes.{CommandWorld, NodeWorld, RunsScript}
 use Rattle.bsc_outside.proofs.Common.{risen_from}
 
@@ -25,3 +26,25 @@ module _ {L W : Type 0} (talk : L → Option (List Said)) (drawn : NodeEvent →
       → ((o : List ℕ) → holds o → more o) → RunsScript talk drawn v holds before after s → RunsScript talk drawn v more before after s
   script_of_more v holds more before after s stays (inl x) = inl x
   script_of_more v holds more before after s stays (inr x) = inr (x.0, stays x.0 x.1, x.2)
+
+-- what a file gave, it gave where more was read since
+pub settled_more : (v : NodeSettings) (holds more : List ℕ → Type 0) → ((o : List ℕ) → holds o → more o) → IsSettled holds v → IsSettled more v
+settled_more v holds more stays x = record {
+  text = x.text;
+  held = stays x.text x.held;
+  doc = x.doc;
+  document = x.document;
+  settings = x.settings;
+  said = x.said;
+  node = x.node;
+}
+
+-- a node whose settings are good doesn't end as one whose settings are refused
+pub not_refused : (s : ℕ) → (s ≡ 0) ⊎ (s ≡ 2) ⊎ (s ≡ 3) ⊎ (s ≡ 4) ⊎ (s ≡ 6) ⊎ (s ≡ 7) ⊎ (s ≡ 8) → s ≡ 5 → ⊥
+not_refused s (inl e) is = omega (arith, e, is)
+not_refused s (inr (inl e)) is = omega (arith, e, is)
+not_refused s (inr (inr (inl e))) is = omega (arith, e, is)
+not_refused s (inr (inr (inr (inl e)))) is = omega (arith, e, is)
+not_refused s (inr (inr (inr (inr (inl e))))) is = omega (arith, e, is)
+not_refused s (inr (inr (inr (inr (inr (inl e)))))) is = omega (arith, e, is)
+not_refused s (inr (inr (inr (inr (inr (inr e)))))) is = omega (arith, e, is)

@@ -142,8 +142,8 @@ module _ {L W : Type 0} (talk : L → Option (List Said)) (drawn : NodeEvent →
   -- told is what was written, and what it dialled is what was dialled; it told that it has ended exactly where the run is finished.
   -- Where no link came, the log is that of a node alone, by the readings of the clock and the lines of the script. A run that a fault ended is such a
   -- run up to there, with one action more in part. However it ended, there was one wait before each turn: of no time before the
-  -- first; and then of 50 ms at most, and no longer than it was, at the turn before, until the next line. What the run wrote stands
-  -- before what is written of its end.
+  -- first, and where something new of a link was left to be told; and else until the time of the next line, and of 50 ms at most.
+  -- What the run wrote stands before what is written of its end.
   pub record NodeRan (asked : NodeAsked) (before after : NodeWorld L W) (s : ℕ) : Type 0 where
     pub own : IsNode (node_identity_of asked.settings)
     pub lines : List Due
@@ -165,7 +165,8 @@ module _ {L W : Type 0} (talk : L → Option (List Said)) (drawn : NodeEvent →
     pub said : IfOk end (λ e. IsSaid last before.dialled.calls after.dialled.calls before.written written × EndsAsTold e last)
     pub lonely : IfOk end (λ e. NoLinkCame before.dialled.calls after.dialled.calls door.left after.door.left
         → (times : List ℕ) × Grows before.readings after.readings times × (last ≡ alone (made_by asked.settings) lines times))
-    pub rests : HasRested lines before.readings after.readings before.waited after.waited
+    pub rests : HasRested (GoesDrawing (GoesAsDefined (made_by asked.settings)) drawn) talk (is_some asked.settings.direct_port) lines
+        (run_moment (at_rest [] before.random) before.dialled before.written door before.readings) after.readings before.waited after.waited
     pub says : SaysEnd end s written after.written
 
   -- Either no node was run, nothing was dialled, no link was asked for, the clock wasn't read, nothing was waited for and no word

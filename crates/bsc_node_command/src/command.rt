@@ -1,5 +1,7 @@
 //! The command over files of settings and of the script.
-ghost use Rattle.std.specs.Prelude.{◌≡◌, ◌≤◌, ◌⊎◌, map, Ok, IfErr, IfOk, List, ℕ};
+ghost use Rattle.std.specs.Prelude.{◌≡◌, ◌≤◌, ◌⊎◌, ◌∷◌, [], map, Ok, Err, IfErr, IfOk, List, ℕ};
+ghost use Rattle.bsc_edge.specs.declared.fault.FileFault.{FileFault};
+ghost use Rattle.bsc_edge.specs.Asked.{GaveFile, ReadsFirstOf, ReadsOnce};
 ghost use Rattle.bsc_outside.specs.Faults.{HasRisen};
 ghost use Rattle.bsc_player.specs.Faults.{RisesIf};
 ghost use Rattle.bsc_player.specs.LastLines.{SaysOrRunsOut};
@@ -37,6 +39,17 @@ fn refuse<K: Sink>(alloc: Global, sink: &mut K, name: &str) -> u8
     }
 }
 
+/// The octets of the file at a path, which is read once, and no other.
+fn read_file<F: Files>(alloc: Global, files: &mut F, path: &str) -> Result<Octets, FileFault>
+    ensures gave { IfOk result (λ o. GaveFile F.holds F.loads files.old files.new path.now o) }
+    ensures once { ReadsOnce (F.loads files.old) (F.loads files.new) path.now }
+    ensures stays { (other o : List ℕ) → F.holds files.new other o → F.holds files.old other o }
+    ensures later { F.faults files.old ≤ F.faults files.new }
+    ensures failed { result ≡ Err FileFault.Failed → HasRisen (F.faults files.old) (F.faults files.new) }
+{
+    files.load(alloc, path)
+}
+
 /// The octets of a file, or the status of a run that ends without them.
 fn load<K: Sink, F: Files>(
     alloc: Global,
@@ -44,7 +57,8 @@ fn load<K: Sink, F: Files>(
     files: &mut F,
     sink: &mut K,
 ) -> Result<Octets, u8>
-    ensures given { IfOk result (λ o. F.holds files.old path.now o × (K.held sink.new ≡ K.held sink.old)) }
+    ensures given { IfOk result (λ o. GaveFile F.holds F.loads files.old files.new path.now o × (K.held sink.new ≡ K.held sink.old)) }
+    ensures once { ReadsOnce (F.loads files.old) (F.loads files.new) path.now }
     ensures unread { IfErr result (λ s. Unread (F.faults files.old) (F.faults files.new) s (K.held sink.old) (K.held sink.new)) }
     ensures read { IfErr result (λ s. RisesIf s 3 (F.faults files.old) (F.faults files.new)) }
     ensures write { IfErr result (λ s. RisesIf s 4 (K.faults sink.old) (K.faults sink.new)) }
@@ -52,7 +66,7 @@ fn load<K: Sink, F: Files>(
     ensures reads_later { F.faults files.old ≤ F.faults files.new }
     ensures writes_later { K.faults sink.old ≤ K.faults sink.new }
 {
-    match files.load(alloc, path) {
+    match read_file(alloc, files, path) {
         Ok(text) => Ok(text),
         Err(FileFault::Failed) => Err(end_with(sink, b"fault read\n", 3)),
         Err(FileFault::NoMemory) => Err(out_of_memory(sink)),
@@ -66,9 +80,10 @@ fn load_settings<K: Sink, F: Files>(
     files: &mut F,
     sink: &mut K,
 ) -> Result<NodeSettings, u8>
-    ensures settled { IfOk result (λ v. IsSettled (F.holds files.old path.now) v × (K.held sink.new ≡ K.held sink.old)) }
+    ensures settled { IfOk result (λ v. IsSettled (GaveFile F.holds F.loads files.old files.new path.now) v × (K.held sink.new ≡ K.held sink.old)) }
+    ensures once { ReadsOnce (F.loads files.old) (F.loads files.new) path.now }
     ensures stays { (other o : List ℕ) → F.holds files.new other o → F.holds files.old other o }
-    ensures unsettled { IfErr result (λ s. Unsettled (F.holds files.old path.now) (F.faults files.old) (F.faults files.new) s
+    ensures unsettled { IfErr result (λ s. Unsettled (GaveFile F.holds F.loads files.old files.new path.now) (F.faults files.old) (F.faults files.new) s
         (K.held sink.old) (K.held sink.new)) }
     ensures read { IfErr result (λ s. RisesIf s 3 (F.faults files.old) (F.faults files.new)) }
     ensures write { IfErr result (λ s. RisesIf s 4 (K.faults sink.old) (K.faults sink.new)) }
@@ -76,7 +91,7 @@ fn load_settings<K: Sink, F: Files>(
     ensures reads_later { F.faults files.old ≤ F.faults files.new }
     ensures writes_later { K.faults sink.old ≤ K.faults sink.new }
 {
-    let text = match files.load(alloc, path) {
+    let text = match read_file(alloc, files, path) {
         Ok(text) => text,
         Err(FileFault::Failed) => return Err(end_with(sink, b"fault read\n", 3)),
         Err(FileFault::NoMemory) => return Err(out_of_memory(sink)),
@@ -118,7 +133,7 @@ fn run_script<
     acceptor: &mut A,
     parts: &mut NodeParts<V, W, D>,
 ) -> u8
-    ensures runs { RunsScript L.talk (Draws W.gives W.faults) here.entry.settings.now (F.holds files.old path.now)
+    ensures runs { RunsScript L.talk (Draws W.gives W.faults) here.entry.settings.now (GaveFile F.holds F.loads files.old files.new path.now)
         (record {
           unread = F.faults files.old;
           beside = node_world (dialling D.calls D.left D.came D.faults) V.waits parts.old
@@ -129,6 +144,7 @@ fn run_script<
           beside = node_world (dialling D.calls D.left D.came D.faults) V.waits parts.new
               (acceptor_world A.left A.came A.waits A.bound A.faults acceptor.new) (C.readings clock.new) (K.held sink.new);
         }) result }
+    ensures once { ReadsOnce (F.loads files.old) (F.loads files.new) path.now }
     ensures read { RisesIf result 3 (F.faults files.old) (F.faults files.new) }
     ensures write { RisesIf result 4 (K.faults sink.old) (K.faults sink.new) }
     ensures link { RisesIf result 6 (A.faults acceptor.old) (A.faults acceptor.new) }
@@ -168,9 +184,16 @@ pub fn run_node_files<
     acceptor: &mut A,
     parts: &mut NodeParts<V, W, D>,
 ) -> u8
+    // The file of settings was read, and then that of the script; but where the settings are refused, that of the settings alone.
+    ensures loaded { ReadsFirstOf (F.loads files.old) (F.loads files.new) (words.entry.path.now ∷ words.entry.script.now ∷ []) }
+    ensures refused { result ≡ 5 → ReadsOnce (F.loads files.old) (F.loads files.new) words.entry.path.now }
+
     // The file of settings wasn't read or was refused; or a node of them was run by the script, where that was read.
     ensures runs { RunsFiles L.talk (Draws W.gives W.faults)
-        (record { settings = F.holds files.old words.entry.path.now; script = F.holds files.old words.entry.script.now })
+        (record {
+          settings = GaveFile F.holds F.loads files.old files.new words.entry.path.now;
+          script = GaveFile F.holds F.loads files.old files.new words.entry.script.now;
+        })
         (record {
           unread = F.faults files.old;
           beside = node_world (dialling D.calls D.left D.came D.faults) V.waits parts.old
@@ -183,7 +206,7 @@ pub fn run_node_files<
         }) result }
 
     // Status 0 comes only once the time of the script's `finish` has passed, from the first reading of the clock to the last.
-    ensures finished { result ≡ 0 → (script : List ℕ) × F.holds files.old words.entry.script.now script
+    ensures finished { result ≡ 0 → (script : List ℕ) × GaveFile F.holds F.loads files.old files.new words.entry.script.now script
         × (lines : List Due) × (script_of script ≡ Ok (map wish_of lines)) × FinishCame lines (C.readings clock.old) (C.readings clock.new) }
     ensures read { RisesIf result 3 (F.faults files.old) (F.faults files.new) }
     ensures write { RisesIf result 4 (K.faults sink.old) (K.faults sink.new) }

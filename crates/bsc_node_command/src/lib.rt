@@ -17,7 +17,7 @@ mod texts;
 mod words;
 
 pub use command::run_node_files;
-pub use laws::{ran_nodes_tell, ran_nodes_use_links};
+pub use laws::{ran_nodes_tell, ran_nodes_use_links, stopped_nodes_tell, stopped_nodes_use_links};
 pub use playing::run_node;
 pub use random_words::RandomWords;
 pub use running_node::RunningNode;

@@ -25,6 +25,5 @@ pub mod Carried
 pub mod Leading
 pub mod Npdus
 pub mod PassedOn
-pub mod OwnOctets
 mod WorkedIdentities
 mod WorkedThere

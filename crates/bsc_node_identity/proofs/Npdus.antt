@@ -3,6 +3,7 @@ use Rattle.std.proofs.Common.{◌≡◌, ℕ, Bool, true, false, cond, List, ref
 use Rattle.std.specs.Prelude.{◌==◌}
 use Rattle.bsc_octets.specs.declared.vmac.Vmac.{Vmac}
 use Rattle.bsc_octets.specs.Forwarding.{function_in, out}
+use Rattle.bsc_octets.specs.Functions.{is_npdu}
 use Rattle.bsc_frame.specs.declared.message.Message.{Message}
 use Rattle.bsc_frame.specs.declared.body.Body.{Body}
 use Rattle.bsc_frame.specs.declared.body.Body.TheVariants.{Npdu}
@@ -13,7 +14,6 @@ use Rattle.bsc_checks.specs.Outcomes.{outcome_of}
 use Rattle.bsc_checks.specs.Payloads.{body_in}
 use Rattle.bsc_direct.proofs.OneMore.{both_ways}
 use Rattle.bsc_node.proofs.Heard.{is_npdu_body}
-use Rattle.bsc_node_identity.specs.Npdus.{is_npdu}
 use Rattle.bsc_node_identity.proofs.Carried.{passed-said}
 
 no-if : (b : Bool) (x y : Body) → (b ≡ true → is_npdu_body x ≡ false) → is_npdu_body y ≡ false → is_npdu_body (cond b x y) ≡ false

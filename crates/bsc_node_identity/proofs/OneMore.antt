@@ -1,5 +1,5 @@
 -- What a log says once one line more stands in it.
-use Rattle.std.proofs.Common.{◌≡◌, ℕ, ◌+◌, ◌-◌, Bool, true, false, cond, ◌||◌, List, [], ◌∷◌, ◌++◌, Option, Some, None, is_some, refl, ap, sym, ◌∙◌, subst}
+use Rattle.std.proofs.Common.{◌≡◌, ℕ, Bool, true, false, cond, ◌||◌, List, [], ◌∷◌, ◌++◌, Option, Some, None, is_some, refl, ap, sym, ◌∙◌, subst}
 use Rattle.std.specs.Prelude.{filter_map, unwrap_or}
 use Rattle.std.specs.Option.{option_or}
 use Rattle.std.proofs.lemmas.List.Elements.{filter_map-append}
@@ -72,8 +72,6 @@ claimed-alone k L wanted =
 pub own_vmac-same : (a : Made) (L : Log) (m : Line) → renewal_of m ≡ None → own_vmac a (L ++ m ∷ []) ≡ own_vmac a L
 own_vmac-same a L m h = ap (λ (o : Option Vmac). unwrap_or o a.own.vmac) (newest_of-more renewal_of L m ∙ ap (λ (o : Option Vmac). option_or o (newest_of renewal_of L)) h)
 
--- ---- what came before the newest of a kind
-
 -- ---- what machines were told
 
 pub initiating-same : (name : LinkName) (L : Log) (m : Line) → begins name m ≡ false → initiating_event name m ≡ None → initiating_events (L ++ m ∷ []) name ≡ initiating_events L name
@@ -92,5 +90,3 @@ accepting-begun name L m b = ap (filter_map (accepting_event name)) (life_begun 
 
 pub resolve_calls-more : (L : Log) (call : ResolveCall) → resolve_calls (L ++ resolution call ∷ []) ≡ resolve_calls L ++ call ∷ []
 resolve_calls-more L call = filter_map-append resolve_call_of L (resolution call ∷ [])
-
--- ---- which links begin

@@ -8,7 +8,7 @@ use Rattle.bsc_node.specs.declared.link_name.LinkName.TheVariants.{Direct}
 use Rattle.bsc_node.specs.declared.node_event.NodeEvent.{NodeEvent}
 use Rattle.bsc_node.specs.declared.node_event.NodeEvent.TheVariants.{Came}
 use Rattle.bsc_node.specs.declared.timed_event.TimedEvent.{TimedEvent}
-use Rattle.bsc_node.specs.Logs.{Made, Log, now}
+use Rattle.bsc_node.specs.Logs.{Made, Log}
 use Rattle.bsc_node.specs.Links.{was_taken, peer}
 use Rattle.bsc_node.specs.Ways.{established_peer}
 use Rattle.bsc_node.specs.Node.{goes_on}

@@ -25,7 +25,6 @@ use Rattle.bsc_octets.specs.Functions.{is_response}
 use Rattle.bsc_accept.specs.declared.closing.Closing.{Closing}
 use Rattle.bsc_accept.specs.declared.event.Event.TheVariants.{Message as AcceptMessage, Joined, Refused as RefusedEvent, Ended, Finish as AcceptFinish, Tick as AcceptTick}
 use Rattle.bsc_accept.specs.Past as Accepting
-use Rattle.bsc_accept.specs.Kept as AcceptingKept
 use Rattle.bsc_history.specs.declared.reply.Refusal.TheVariants.{Duplicate as DuplicateRefusal}
 use Rattle.bsc_initiate.specs.declared.event.InitEvent.TheVariants.{Opened as MachineOpened, Message as InitMessage, Finish as InitFinish, Tick as InitTick}
 use Rattle.bsc_initiate.specs.declared.step.InitStep.TheVariants.{Nothing as InitNothing}

@@ -13,7 +13,6 @@ use Rattle.bsc_accept.proofs.Looking.{standing-more as accepting_standing-more}
 use Rattle.bsc_initiate.specs.declared.event.InitEvent.{InitEvent}
 use Rattle.bsc_initiate.specs.declared.event.InitEvent.TheVariants.{Opened as MachineOpened, Message as InitMessage, Finish as InitFinish, Tick as InitTick}
 use Rattle.bsc_initiate.specs.Past as Initiating
-use Rattle.bsc_initiate.specs.Steps as InitiatingSteps
 use Rattle.bsc_initiate.specs.Kept as InitiatingKept
 use Rattle.bsc_initiate.proofs.Looking.{standing-more}
 use Rattle.bsc_direct.specs.declared.call.SlotCall.TheVariants.{Up}

@@ -22,6 +22,7 @@ pub mod Turning
 pub mod Courses
 pub mod Stopping
 pub mod StopsMapping
+pub mod Resting
 pub mod Saying
 pub mod AloneBack
 pub mod AloneActing

@@ -40,7 +40,7 @@ use Rattle.bsc_lemmas.proofs.Booleans.{or_false as or_none}
 
 -- ---- what is written and dialled between two moments
 
-none_written : (h k : Option (List ℕ)) → k ≡ h → Appends h k []
+pub none_written : (h k : Option (List ℕ)) → k ≡ h → Appends h k []
 none_written h k e = subst (λ (o : Option (List ℕ)). Appends h o []) (sym e) (Appends-nil h)
 
 none_dialled : (c d : Option (List Dialled)) → d ≡ c → AreDialled c d []
@@ -140,10 +140,10 @@ module _ {L : Type 0} where
   abbrev pub SaysBetween : Log → World L → Log → World L → Type 0
   SaysBetween M w N v = (lines : List Line) × (N ≡ M ++ lines) × SaysIn (filter_map action_of lines) w v
 
-  between-none : (M : Log) (w : World L) (N : Log) (v : World L) → N ≡ M → Still w v → SaysBetween M w N v
+  pub between-none : (M : Log) (w : World L) (N : Log) (v : World L) → N ≡ M → Still w v → SaysBetween M w N v
   between-none M w N v e s = ([], e ∙ sym (append-nil M), says-none w v s)
 
-  between-then : (M : Log) (w : World L) (P : Log) (x : World L) (N : Log) (v : World L) → SaysBetween M w P x → SaysBetween P x N v → SaysBetween M w N v
+  pub between-then : (M : Log) (w : World L) (P : Log) (x : World L) (N : Log) (v : World L) → SaysBetween M w P x → SaysBetween P x N v → SaysBetween M w N v
   between-then M w P x N v (ls, e, a) (ks, f, b) = (
     ls ++ ks,
     f ∙ ap (λ (K : Log). K ++ ks) e ∙ append_assoc M ls ks,
@@ -151,13 +151,13 @@ module _ {L : Type 0} where
   )
 
   -- The world in which it begins may have more links, or others.
-  between-from : (M : Log) (w x : World L) (N : Log) (v : World L) → Still w x → SaysBetween M x N v → SaysBetween M w N v
+  pub between-from : (M : Log) (w x : World L) (N : Log) (v : World L) → Still w x → SaysBetween M x N v → SaysBetween M w N v
   between-from M w x N v s b = between-then M w M x N v (between-none M w M x refl s) b
 
 -- ---- a turn
 
 module _ {L : Type 0} (a : Made) (talk : L → Option (List Said)) (now : ℕ) where
-  goes-between : (e : NodeEvent) (actions : List Action) (M : Log) (w : World L) (N : Log) (v : World L) → GoesAsDefined a M now e actions N → Carries talk actions w v → SaysBetween M w N v
+  pub goes-between : (e : NodeEvent) (actions : List Action) (M : Log) (w : World L) (N : Log) (v : World L) → GoesAsDefined a M now e actions N → Carries talk actions w v → SaysBetween M w N v
   goes-between e actions M w N v (may, are, on) c =
       (goes_on a (record { now = now; event = e }) M, on, subst (λ (xs : List Action). SaysIn xs w v) are (carries-says talk actions w v c))
 
@@ -165,16 +165,16 @@ module _ {L : Type 0} (a : Made) (talk : L → Option (List Said)) (now : ℕ) w
   answers-between false M w N v (e, s) = between-none M w N v e (still-same w v s)
   answers-between true M w N v (word, actions, brings, g, c) = goes-between word actions M w N v g c
 
-  gives-between : (e : NodeEvent) (M : Log) (w : World L) (N : Log) (v : World L) → Gives (GoesAsDefined a) talk now e M w N v → SaysBetween M w N v
+  pub gives-between : (e : NodeEvent) (M : Log) (w : World L) (N : Log) (v : World L) → Gives (GoesAsDefined a) talk now e M w N v → SaysBetween M w N v
   gives-between e M w N v (actions, P, x, g, c, answer) =
       between-then M w P x N v (goes-between e actions M w P x g c) (answers-between (draws actions) P x N v answer)
 
-  news-between : (news : List News) (M : Log) (w : World L) (N : Log) (v : World L) → GivesNews (GoesAsDefined a) talk now news M w N v → SaysBetween M w N v
+  pub news-between : (news : List News) (M : Log) (w : World L) (N : Log) (v : World L) → GivesNews (GoesAsDefined a) talk now news M w N v → SaysBetween M w N v
   news-between [] M w N v (none, e, s) = between-none M w N v e (still-same w v s)
   news-between (n ∷ news) M w N v (rest, P, x, is, g, later) =
       between-then M w P x N v (gives-between (event_of n) M (record w { due = rest }) P x g) (news-between news P x N v later)
 
-  lines-between : (lines : List Due) (M : Log) (w : World L) (N : Log) (v : World L) → GivesLines (GoesAsDefined a) talk now lines M w N v → SaysBetween M w N v
+  pub lines-between : (lines : List Due) (M : Log) (w : World L) (N : Log) (v : World L) → GivesLines (GoesAsDefined a) talk now lines M w N v → SaysBetween M w N v
   lines-between [] M w N v (e, s) = between-none M w N v e (still-same w v s)
   lines-between (d ∷ lines) M w N v (P, x, g, later) = between-then M w P x N v (gives-between d.event M w P x g) (lines-between lines P x N v later)
 
@@ -190,11 +190,11 @@ module _ {L : Type 0} (a : Made) (talk : L → Option (List Said)) (now : ℕ) w
   heard-between name l (Err Failed) M w N v g = given-between (Lost name) M (ends name l w) N v g
   heard-between name l (Err NoMemory) M w N v g = absurd g
 
-  hears-between : (name : LinkName) (opened : Bool) (M : Log) (w : World L) (N : Log) (v : World L) → HearsIf (GoesAsDefined a) talk now name opened M w N v → SaysBetween M w N v
+  pub hears-between : (name : LinkName) (opened : Bool) (M : Log) (w : World L) (N : Log) (v : World L) → HearsIf (GoesAsDefined a) talk now name opened M w N v → SaysBetween M w N v
   hears-between name false M w N v (e, s) = between-none M w N v e (still-same w v s)
   hears-between name true M w N v (k, l, given, is, grows, h) = heard-between name l given M w N v h
 
-  each-between : (all : List LinkName) (M : Log) (w : World L) (N : Log) (v : World L) → HearsEach (GoesAsDefined a) talk now all M w N v → SaysBetween M w N v
+  pub each-between : (all : List LinkName) (M : Log) (w : World L) (N : Log) (v : World L) → HearsEach (GoesAsDefined a) talk now all M w N v → SaysBetween M w N v
   each-between [] M w N v (e, s) = between-none M w N v e (still-same w v s)
   each-between (name ∷ all) M w N v (P, x, h, later) = between-then M w P x N v (hears-between name (is_open name w) M w P x h) (each-between all P x N v later)
 
@@ -204,11 +204,11 @@ module _ {L : Type 0} (a : Made) (talk : L → Option (List Said)) (now : ℕ) w
   admits-between true M w door N v door' (waits, inl (e, s, none)) = between-none M w N v e (still-same w v s)
   admits-between true M w door N v door' (waits, inr (l, leaves, g)) = gives-between Arrived M (record w { arrived = Some l }) N v g
 
-  starts-between : (start : Option ℕ) (M : Log) (w : World L) (N : Log) (v : World L) → Starts (GoesAsDefined a) talk now start M w N v → SaysBetween M w N v
+  pub starts-between : (start : Option ℕ) (M : Log) (w : World L) (N : Log) (v : World L) → Starts (GoesAsDefined a) talk now start M w N v → SaysBetween M w N v
   starts-between None M w N v g = gives-between Start M w N v g
   starts-between (Some start) M w N v (e, s) = between-none M w N v e (still-same w v s)
 
-  turn-between : (start : Option ℕ) (script rest : List Due) (listens : Bool) (M : Log) (w : World L) (door : Admitting L) (N : Log) (v : World L) (door' : Admitting L)
+  pub turn-between : (start : Option ℕ) (script rest : List Due) (listens : Bool) (M : Log) (w : World L) (door : Admitting L) (N : Log) (v : World L) (door' : Admitting L)
       → Turn (GoesAsDefined a) talk now start script rest listens (moment M w door) (moment N v door') → SaysBetween M w N v
   turn-between start script rest listens M w door N v door' t =
       between-from M w t.world_begun N v (still-same (begun w) t.world_begun t.begins)

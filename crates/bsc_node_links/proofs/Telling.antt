@@ -1,5 +1,5 @@
 -- What links that had told nothing when they came tell at last.
-use Rattle.std.proofs.Common.{◌≡◌, ℕ, zero, suc, Bool, true, false, ◌&&◌, List, [], ◌∷◌, ◌++◌, Option, Some, None, refl, ap, sym, subst, ◌∙◌}
+use Rattle.std.proofs.Common.{◌≡◌, ℕ, zero, suc, Bool, true, List, [], ◌∷◌, ◌++◌, Option, Some, None, refl, ap, sym, subst, ◌∙◌}
 use Rattle.std.specs.Prelude.{slice_get}
 use Rattle.std.specs.List.{list_all}
 use Rattle.std.proofs.lemmas.Option.{same_Some}
@@ -12,6 +12,7 @@ use Rattle.bsc_node.specs.Logs.{Line, did, Log}
 use Rattle.bsc_lemmas.proofs.Booleans.{and_left, and_right}
 use Rattle.bsc_node_links.specs.Coming.{LeftBy, arrived_by, by_lines, link_by}
 use Rattle.bsc_node_links.specs.Lives.{given_over, put_over}
+use Rattle.bsc_node_links.specs.Stopped.{StoppedLinksTell}
 use Rattle.bsc_node_links.specs.Talks.{AreFirstOf, given_in, put_in}
 use Rattle.bsc_node_links.specs.Telling.{AllFresh, AreFresh, AreUntold, CameFresh, LeavesFresh, LinksAreFresh, LinksCameFresh, LinksTell, Tells, TellsOf}
 use Rattle.bsc_node_links.specs.Using.{HasUse}
@@ -85,6 +86,16 @@ module _ {L : Type 0} (talk : L → Option (List Said)) where
     came_fresh before.dialled.came after.dialled.came (by_lines link_by M u.links) dialled u.dialled.came,
     came_fresh before.door.came after.door.came (by_lines arrived_by M u.links) arrived u.arrived.came,
   )
+
+  -- The same of a run that a fault stopped.
+  pub stopped_links_tell : StoppedLinksTell talk
+  stopped_links_tell before after M u dialled arrived x begun =
+      let fresh : AreFresh talk M u.links = (
+        came_fresh before.dialled.came after.dialled.came (by_lines link_by M u.links) dialled u.dialled.came,
+        came_fresh before.door.came after.door.came (by_lines arrived_by M u.links) arrived u.arrived.came,
+      ) in
+      let h = u.used x begun in
+      (h.0, h.1, use_tells h.0 (given_over M x) (put_over M x) (λ l is. fresh_at M u.links x.began begun.line l x.name fresh begun.at begun.begins_it (h.1 ∙ ap Some is)) h.2)
 
   each_fresh : (fresh : L → Bool) → AreUntold talk fresh → (links : List L) → list_all fresh links ≡ true → AllFresh talk links
   each_fresh fresh untold [] h = tt

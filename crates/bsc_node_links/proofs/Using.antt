@@ -1,5 +1,5 @@
 -- What the links in a run's hands told, and the log of its node, line by line.
-use Rattle.std.proofs.Common.{◌≡◌, ◌⊎◌, inl, inr, ℕ, ◌+◌, Bool, true, false, cond, ◌||◌, List, [], ◌∷◌, ◌++◌, length, length-append, Option, Some, None, is_some, Ok, Err, refl, ap, sym, subst, ◌∙◌, ◌<◌, suc, arith, append-nil, append_assoc}
+use Rattle.std.proofs.Common.{◌≡◌, ◌⊎◌, inl, inr, ℕ, ◌+◌, Bool, true, false, cond, ◌||◌, List, [], ◌∷◌, ◌++◌, length, length-append, Option, Some, None, is_some, Ok, Err, refl, ap, sym, subst, ◌∙◌, ◌<◌, arith, append-nil, append_assoc}
 use Rattle.std.specs.Prelude.{filter_map, flat_map, option_to_list, slice_get}
 use Rattle.std.specs.List.{list_any}
 use Rattle.std.proofs.lemmas.Grind.{flat_map-append}
@@ -35,7 +35,9 @@ use Rattle.bsc_node_links.specs.Coming.{EachTaken, HasDialled, HasGiven, IsTaken
 use Rattle.bsc_node_links.specs.Lives.{HasBegun, LinkLife, given_by, given_over, lines_since, put_by, put_over, until_anew}
 use Rattle.bsc_node_links.specs.Talks.{AreFirstOf, given_by as said_given, given_in, put_by as said_put, put_in}
 use Rattle.bsc_node_links.specs.Using.{HasUse}
-use Rattle.bsc_node_links.proofs.Lists.{drop-behind, drop-more, got-below, got-first, got-more, got-split}
+use Rattle.bsc_lemmas.proofs.Lists.{got-more, got-split, got-within}
+use Rattle.bsc_lemmas.proofs.Numbers.{same_suc}
+use Rattle.bsc_node_links.proofs.Lists.{drop-behind, drop-more, got-first}
 use Rattle.bsc_node_links.proofs.Lives.{until-all, until-none, until-some}
 
 -- ---- lists
@@ -65,12 +67,12 @@ any_more name D m b c is here = sym (list_any-append (begins name) D (m ∷ []) 
 pub same_self : {L : Type 0} (w : World L) → Same w w
 same_self w = record { link = λ name. refl; arrived = refl; over = refl; due = refl; waiting = refl; finished = refl; dialled = refl; held = refl }
 
-dial_named : (name : LinkName) (uri : List ℕ) → begins_in_slots (did (Dial name uri)) ≡ true → is_name name ≡ true
+pub dial_named : (name : LinkName) (uri : List ℕ) → begins_in_slots (did (Dial name uri)) ≡ true → is_name name ≡ true
 dial_named (Hub s) uri h = refl
 dial_named (Direct k) uri h = in_slots_named k h
 
 -- where no link of a name is there, none is in hand
-none_in_hand : {L : Type 0} (name : LinkName) (w : World L) (M : Log) → is_there name M ≡ false → Agrees w M → w.link name ≡ None
+pub none_in_hand : {L : Type 0} (name : LinkName) (w : World L) (M : Log) → is_there name M ≡ false → Agrees w M → w.link name ≡ None
 none_in_hand {L} name w M out A = by (is_name name) refl
   where
     gone : (t o : Bool) (l : Option L) (cs : List Change) → t ≡ false → AgreesBy t o l cs → l ≡ None
@@ -120,7 +122,7 @@ module _ {L : Type 0} (talk : L → Option (List Said)) where
   )
 
   -- What is put once the link is gone goes nowhere.
-  more_put : (z : Option (Option L)) (g p q : List (List ℕ)) → IsGone z g p → IsGone z g (p ++ q)
+  pub more_put : (z : Option (Option L)) (g p q : List (List ℕ)) → IsGone z g p → IsGone z g (p ++ q)
   more_put z g p q (None, is, none) = (None, is, none)
   more_put z g p q (Some first, is, (l, u)) = (Some first, is, (l, record { T = u.T; grows = u.grows; gave = u.gave; took = more_first (put_in u.T) p q u.took }))
 
@@ -138,11 +140,8 @@ module _ {L : Type 0} (talk : L → Option (List Said)) where
 
 -- ---- links by lines
 
-same_suc : (i j : ℕ) → suc i ≡ suc j → i ≡ j
-same_suc i j e = cc
-
 module _ {L : Type 0} where
-  lines_more : {B : Type 0} (f : Line → Option L → List B) (M : Log) (K : List (Option L)) (m : Line) (c : Option L) → length K ≡ length M
+  pub lines_more : {B : Type 0} (f : Line → Option L → List B) (M : Log) (K : List (Option L)) (m : Line) (c : Option L) → length K ≡ length M
       → by_lines f M K ++ f m c ≡ by_lines f (M ++ m ∷ []) (K ++ c ∷ [])
   lines_more f [] [] m c h = sym (append-nil (f m c))
   lines_more f [] (k ∷ K) m c h = cc
@@ -150,7 +149,7 @@ module _ {L : Type 0} where
   lines_more {B} f (n ∷ M) (k ∷ K) m c h =
       append_assoc (f n k) (by_lines f M K) (f m c) ∙ ap (λ (l : List B). f n k ++ l) (lines_more f M K m c (same_suc (length K) (length M) h))
 
-  taken_more : (M : Log) (K : List (Option L)) (m : Line) (c : Option L) → length K ≡ length M → EachTaken M K → IsTakenBy m c → EachTaken (M ++ m ∷ []) (K ++ c ∷ [])
+  pub taken_more : (M : Log) (K : List (Option L)) (m : Line) (c : Option L) → length K ≡ length M → EachTaken M K → IsTakenBy m c → EachTaken (M ++ m ∷ []) (K ++ c ∷ [])
   taken_more [] [] m c e t h = (h, tt)
   taken_more [] (k ∷ K) m c e t h = cc
   taken_more (n ∷ M) [] m c e t h = cc
@@ -183,7 +182,7 @@ module _ {L : Type 0} where
   abbrev pub Admitted : Line → Option L → Option L → Option L → Type 0
   Admitted m c before after = arrived_by m c ++ option_to_list after ≡ option_to_list before
 
-  arrived_more : (first door : Admitting L) (k l : Option L) (M : Log) (K : List (Option L)) (m : Line) (c : Option L) → length K ≡ length M → Admitted m c k l
+  pub arrived_more : (first door : Admitting L) (k l : Option L) (M : Log) (K : List (Option L)) (m : Line) (c : Option L) → length K ≡ length M → Admitted m c k l
       → HasArrived first door k M K → HasArrived first door l (M ++ m ∷ []) (K ++ c ∷ [])
   arrived_more first door k l M K m c h is a =
       subst (HasGiven first door)
@@ -257,7 +256,7 @@ module _ {L : Type 0} (talk : L → Option (List Said)) (d : Dialling L) (first 
   abbrev pub Uses : World L → Log → Type 0
   Uses w M = (K : List (Option L)) × (length K ≡ length M) × HasDialled d w.dialled M K × HasArrived first door w.arrived M K × EachTaken M K × EachStands K w M
 
-  step_each : (w v : World L) (M : Log) (m : Line) (c : Option L) (K : List (Option L)) → length K ≡ length M
+  pub step_each : (w v : World L) (M : Log) (m : Line) (c : Option L) (K : List (Option L)) → length K ≡ length M
       → ((name : LinkName) (z : Option (Option L)) (g p : List (List ℕ)) → begins name m ≡ false → StandsSo talk z (w.link name) g p → StandsSo talk z (v.link name) (g ++ given_by name m) (p ++ put_by name m))
       → ((name : LinkName) → begins name m ≡ true → StandsSo talk (Some c) (v.link name) [] [])
       → EachStands K w M → EachStands (K ++ c ∷ []) v (M ++ m ∷ [])
@@ -286,7 +285,7 @@ module _ {L : Type 0} (talk : L → Option (List Said)) (d : Dialling L) (first 
 
       by : (slice_get M x.began ≡ Some begun.line) ⊎ ((x.began ≡ length M) × (m ≡ begun.line)) → On talk (slice_get (K ++ c ∷ []) x.began) v x (lines_since (M ++ m ∷ []) x)
       by (inl at) =
-          let below = got-below M x.began begun.line at in
+          let below = got-within M x.began begun.line at in
           let within : x.began < length K = omega (arith, below, long) in
           subst (λ (z : Option (Option L)). On talk z v x (lines_since (M ++ m ∷ []) x)) (sym (got-first K (c ∷ []) x.began within))
           (subst (On talk (slice_get K x.began) v x) (sym (drop-more (x.began + 1) M (m ∷ []) (omega arith)))
@@ -352,7 +351,7 @@ module _ {L : Type 0} (talk : L → Option (List Said)) (d : Dialling L) (first 
 
   -- ---- actions
 
-  puts_uses : (name : LinkName) (o : List ℕ) (w v : World L) (M : Log) (k : Option L) → w.link name ≡ k → Puts talk name o k w v → Agrees w M → Uses w M → Uses v (M ++ did (Put name o) ∷ [])
+  pub puts_uses : (name : LinkName) (o : List ℕ) (w v : World L) (M : Log) (k : Option L) → w.link name ≡ k → Puts talk name o k w v → Agrees w M → Uses w M → Uses v (M ++ did (Put name o) ∷ [])
   puts_uses name o w v M None e s A =
       touch name w v M (did (Put name o)) None (uncalled w.dialled v.dialled s.dialled) (ap option_to_list s.arrived) tt (λ other ne. s.link other) (λ other ne. refl) (λ other ne. refl) (λ other ne. rw ne refl)
       (λ z g p b h. so talk z None (v.link name) g (g ++ []) (p ++ put_by name (did (Put name o))) (p ++ put_by name (did (Put name o))) (sym (s.link name ∙ e)) (sym (append-nil g)) refl
@@ -375,7 +374,7 @@ module _ {L : Type 0} (talk : L → Option (List Said)) (d : Dialling L) (first 
       (let_go talk z m (g ++ []) (p ++ o ∷ []) (says talk z l m (SaidPut o (Some Failed)) g p grew (so talk z (w.link name) (Some l) g g p p e refl refl h))))
       (λ b. cc)
 
-  closes_uses : (name : LinkName) (c : Closing) (w v : World L) (M : Log) (k : Option L) → w.link name ≡ k → Closes talk name c k w v → Agrees w M → Uses w M → Uses v (M ++ did (Close name c) ∷ [])
+  pub closes_uses : (name : LinkName) (c : Closing) (w v : World L) (M : Log) (k : Option L) → w.link name ≡ k → Closes talk name c k w v → Agrees w M → Uses w M → Uses v (M ++ did (Close name c) ∷ [])
   closes_uses name c w v M None e s A = quiet w v M (did (Close name c)) None (uncalled w.dialled v.dialled s.dialled) (ap option_to_list s.arrived) tt (λ other. s.link other) (λ other. refl) (λ other. refl) (λ other. refl)
   closes_uses name c w v M (Some l) e (m, grew, s) A =
       let named : is_name name ≡ true = in_hand_named name l w M e A in
@@ -386,7 +385,7 @@ module _ {L : Type 0} (talk : L → Option (List Said)) (d : Dialling L) (first 
       (λ b. cc)
 
   -- a link that has just come
-  new_link : (l : L) → IsInHand talk (Some (Some l)) l [] []
+  pub new_link : (l : L) → IsInHand talk (Some (Some l)) l [] []
   new_link l = (l, refl, [], grows_none (talk l), refl, refl)
 
   dials_uses : (name : LinkName) (uri : List ℕ) (w v : World L) (M : Log) → is_there name M ≡ false → is_name name ≡ true → (l : Option L)
@@ -443,7 +442,7 @@ module _ {L : Type 0} (talk : L → Option (List Said)) (d : Dialling L) (first 
 
   -- ---- lines
 
-  still : (m : Line) (w : World L) (M : Log) → MayStand M m → action_of m ≡ None → Uses w M → Uses w (M ++ m ∷ [])
+  pub still : (m : Line) (w : World L) (M : Log) → MayStand M m → action_of m ≡ None → Uses w M → Uses w (M ++ m ∷ [])
   still (came e) w M may none u = absurd may
   still (did action) w M may none u = cc
   still (initiating name e) w M may none u = quiet w w M (initiating name e) None (uncalled w.dialled w.dialled refl) refl tt (λ name. refl) (λ name. refl) (λ name. refl) (λ name. refl) u

@@ -64,13 +64,13 @@ use Rattle.bsc_node_links.specs.Using.{LinksAreUsed, Outside, RunsUseLinks, Scri
 use Rattle.bsc_node_links.proofs.Using.{Admitted, Calls, HasArrived, IsGone, IsUncalled, StandsBy, StandsSo, Uses, carries_none, given_none, let_go, lines_use, none_came, one_came, quiet, redoor, refused_none, same_self, says, so, stays, taken_none, takes_uses, touch, uncalled, used, uses_alike}
 
 -- A log as its own node.
-abbrev Is : Log → Log → Type 0
+abbrev pub Is : Log → Log → Type 0
 Is n M = n ≡ M
 
-log_steps : (a : Made) → Steps (GoesAsDefined a) a Is
+pub log_steps : (a : Made) → Steps (GoesAsDefined a) a Is
 log_steps a n m M t e actions is may goes = subst (λ (K : Log). (actions ≡ actions_at a K (at t e)) × (m ≡ K ++ goes_on a (at t e) K)) is (goes.1, goes.2)
 
-opens_do_nothing : (e : NodeEvent) (L : Log) (lines : List Line) → filter_map action_of (opens_at e L ++ lines) ≡ filter_map action_of lines
+pub opens_do_nothing : (e : NodeEvent) (L : Log) (lines : List Line) → filter_map action_of (opens_at e L ++ lines) ≡ filter_map action_of lines
 opens_do_nothing (Opened name) L lines = refl
 opens_do_nothing e L lines = refl
 
@@ -78,26 +78,26 @@ plain_opens : (e : NodeEvent) (L : Log) → is_plain e ≡ true → opens_at e L
 plain_opens (Opened name) L h = cc
 plain_opens e L h = refl
 
-brought_of : (a : Made) (M : Log) (t : ℕ) (e : NodeEvent) → is_arrival e ≡ false → Brings a M (at t e) e → LogGoesOn a M (at t e)
+pub brought_of : (a : Made) (M : Log) (t : ℕ) (e : NodeEvent) → is_arrival e ≡ false → Brings a M (at t e) e → LogGoesOn a M (at t e)
 brought_of a M t Arrived h b = cc
 brought_of a M t e h b = b
 
-word_ends : (e : NodeEvent) → IsTrue (brings_word e) → (name : LinkName) → is_over_by_event name e ≡ false
+pub word_ends : (e : NodeEvent) → IsTrue (brings_word e) → (name : LinkName) → is_over_by_event name e ≡ false
 word_ends (Random w) h name = refl
 word_ends NoRandom h name = refl
 word_ends e h name = cc
 
-word_plain : (e : NodeEvent) → IsTrue (brings_word e) → is_plain e ≡ true
+pub word_plain : (e : NodeEvent) → IsTrue (brings_word e) → is_plain e ≡ true
 word_plain (Random w) h = refl
 word_plain NoRandom h = refl
 word_plain e h = cc
 
-asked_plain : (e : NodeEvent) → is_asked e ≡ true → is_plain e ≡ true
+pub asked_plain : (e : NodeEvent) → is_asked e ≡ true → is_plain e ≡ true
 asked_plain (Opened name) h = cc
 asked_plain Arrived h = cc
 asked_plain e h = refl
 
-plain_no_arrival : (e : NodeEvent) → is_plain e ≡ true → is_arrival e ≡ false
+pub plain_no_arrival : (e : NodeEvent) → is_plain e ≡ true → is_arrival e ≡ false
 plain_no_arrival Arrived h = cc
 plain_no_arrival e h = refl
 
@@ -110,21 +110,21 @@ no_message : (t : ℕ) (e : NodeEvent) → brings_message e ≡ false → (name 
 no_message t (Came other o) h name = cc
 no_message t e h name = refl
 
-word_message : (e : NodeEvent) → IsTrue (brings_word e) → brings_message e ≡ false
+pub word_message : (e : NodeEvent) → IsTrue (brings_word e) → brings_message e ≡ false
 word_message (Random w) h = refl
 word_message NoRandom h = refl
 word_message e h = cc
 
-asked_message : (e : NodeEvent) → is_asked e ≡ true → brings_message e ≡ false
+pub asked_message : (e : NodeEvent) → is_asked e ≡ true → brings_message e ≡ false
 asked_message (Came name o) h = cc
 asked_message e h = refl
 
-news_message : (name : LinkName) (change : Change) → brings_message (event_of (record { link = name; change = change })) ≡ false
+pub news_message : (name : LinkName) (change : Change) → brings_message (event_of (record { link = name; change = change })) ≡ false
 news_message name DidOpen = refl
 news_message name DidntOpen = refl
 news_message name WasLost = refl
 
-news_no_arrival : (name : LinkName) (change : Change) → is_arrival (event_of (record { link = name; change = change })) ≡ false
+pub news_no_arrival : (name : LinkName) (change : Change) → is_arrival (event_of (record { link = name; change = change })) ≡ false
 news_no_arrival name DidOpen = refl
 news_no_arrival name DidntOpen = refl
 news_no_arrival name WasLost = refl
@@ -135,17 +135,17 @@ module _ {L : Type 0} (a : Made) (talk : L → Option (List Said)) (d0 : Diallin
       → Uses talk d0 a0 D w M → Uses talk d0 a0 D v (with_event M (at t e))
   event_use w v M t e none dials arr same = quiet talk d0 a0 D w v M (came (at t e)) None (uncalled w.dialled v.dialled dials) (ap option_to_list arr) tt same (λ name. refl) (no_message t e none) (λ name. refl)
 
-  opened_use : (w : World L) (M : Log) (e : NodeEvent) → Uses talk d0 a0 D w M → Uses talk d0 a0 D w (M ++ opens_at e M)
+  pub opened_use : (w : World L) (M : Log) (e : NodeEvent) → Uses talk d0 a0 D w M → Uses talk d0 a0 D w (M ++ opens_at e M)
   opened_use w M (Opened name) u = quiet talk d0 a0 D w w M (initiating name (MachineOpened (now_in M) (next_id M))) None (uncalled w.dialled w.dialled refl) refl tt (λ other. refl) (λ other. refl) (λ other. refl) (λ other. refl) u
   opened_use w M e u = subst (Uses talk d0 a0 D w) (sym (append-nil M)) u
 
-  plain_agrees : (w : World L) (M : Log) (t : ℕ) (e : NodeEvent) → is_plain e ≡ true → Agrees w (with_event M (at t e)) → Agrees w (with_event M (at t e) ++ opens_at e (with_event M (at t e)))
+  pub plain_agrees : (w : World L) (M : Log) (t : ℕ) (e : NodeEvent) → is_plain e ≡ true → Agrees w (with_event M (at t e)) → Agrees w (with_event M (at t e) ++ opens_at e (with_event M (at t e)))
   plain_agrees w M t e plain A = subst (Agrees w) (sym (ap (λ lines. with_event M (at t e) ++ lines) (plain_opens e (with_event M (at t e)) plain) ∙ append-nil (with_event M (at t e)))) A
 
   -- ---- what follows from an event
 
   -- from any but that a link arrives
-  goes_use : (M : Log) (e : TimedEvent) (w v : World L) → LogGoesOn a M e → Agrees w (with_event M e ++ opens_at e.event (with_event M e)) → Uses talk d0 a0 D w (with_event M e)
+  pub goes_use : (M : Log) (e : TimedEvent) (w v : World L) → LogGoesOn a M e → Agrees w (with_event M e ++ opens_at e.event (with_event M e)) → Uses talk d0 a0 D w (with_event M e)
       → Carries talk (actions_at a M e) w v → Uses talk d0 a0 D v (M ++ goes_on a e M)
   goes_use M e w v g A u c =
       subst (Uses talk d0 a0 D v) (sym (ap (λ lines. M ++ lines) g.is ∙ seam M (came e) (opens_at e.event (with_event M e)) g.lines))
@@ -256,7 +256,7 @@ module _ {L : Type 0} (a : Made) (talk : L → Option (List Said)) (d0 : Diallin
   -- ---- what a link gave
 
   -- It is in hand as it was left by it.
-  hears_use : (name : LinkName) (k l : L) (s : Said) (o : Option L) (w v : World L) (M : Log) (m : Line) → is_name name ≡ true → w.link name ≡ Some k
+  pub hears_use : (name : LinkName) (k l : L) (s : Said) (o : Option L) (w v : World L) (M : Log) (m : Line) → is_name name ≡ true → w.link name ≡ Some k
       → Grows (talk k) (talk l) (s ∷ []) → ((z : Option (Option L)) (g p : List (List ℕ)) → StandsSo talk z (Some l) g p → StandsSo talk z o g p) → ((other : LinkName) → v.link other ≡ (with_link name o w).link other) → v.dialled ≡ w.dialled → v.arrived ≡ w.arrived
       → ((other : LinkName) → begins other m ≡ false) → ((other : LinkName) → same_link name other ≡ false → given_by other m ≡ []) → given_by name m ≡ said_given s
       → ((other : LinkName) → put_by other m ≡ []) → said_put s ≡ [] → (IsUncalled w.dialled v.dialled → Calls m None w.dialled v.dialled) → (v.arrived ≡ w.arrived → Admitted m None w.arrived v.arrived) → ((c : Option L) → c ≡ None → IsTakenBy m c) → Uses talk d0 a0 D w M → Uses talk d0 a0 D v (M ++ m ∷ [])
@@ -330,7 +330,7 @@ module _ {L : Type 0} (a : Made) (talk : L → Option (List Said)) (d0 : Diallin
       )
   hears_of name k l (Err NoMemory) n m w v h u gone grew g = absurd g
 
-  hears_if : (name : LinkName) (b : Bool) (n m : Log) (w v : World L) → Fine n w → is_name name ≡ true → w.due ≡ [] → is_open name w ≡ b
+  pub hears_if : (name : LinkName) (b : Bool) (n m : Log) (w v : World L) → Fine n w → is_name name ≡ true → w.due ≡ [] → is_open name w ≡ b
       → HearsIf (GoesAsDefined a) talk t name b n w m v → Fine m v × (v.due ≡ [])
   hears_if name false n m w v f named none up (is, same) = (fine_same n m w v is same f, same.due ∙ none)
   hears_if name true n m w v f named none up (k, l, given, is, grew, g) =
@@ -349,7 +349,7 @@ module _ {L : Type 0} (a : Made) (talk : L → Option (List Said)) (d0 : Diallin
   abbrev pub FineAt : Admitting L → Log → World L → Type 0
   FineAt D M w = Fine a talk d0 a0 D t below M w
 
-  admits_use : (listens : Bool) (n m : Log) (w v : World L) (door door' : Admitting L) → FineAt door n w → w.due ≡ []
+  pub admits_use : (listens : Bool) (n m : Log) (w v : World L) (door door' : Admitting L) → FineAt door n w → w.due ≡ []
       → Admits (GoesAsDefined a) talk t listens (moment n w door) (moment m v door') → FineAt door' m v × (v.due ≡ [])
   admits_use false n m w v door door' f none (is, same, e) =
       (fine_same a talk d0 a0 door' t below n m w v is same (f.0, redoor talk d0 a0 door door' w n (λ K h. subst (λ (x : Admitting L). HasArrived a0 x w.arrived n K) (sym e) h) f.1, f.2), same.due ∙ none)
@@ -417,7 +417,7 @@ no_line : {A : Type 0} (M : Log) (i : ℕ) (line : Line) → M ≡ [] → slice_
 no_line [] i line e h = cc
 no_line (m ∷ M) i line e h = cc
 
-none_used : {L : Type 0} (talk : L → Option (List Said)) (w : World L) (d0 : Dialling L) (a0 D : Admitting L) → w.dialled ≡ d0 → D ≡ a0 → w.arrived ≡ None → Uses talk d0 a0 D w []
+pub none_used : {L : Type 0} (talk : L → Option (List Said)) (w : World L) (d0 : Dialling L) (a0 D : Admitting L) → w.dialled ≡ d0 → D ≡ a0 → w.arrived ≡ None → Uses talk d0 a0 D w []
 none_used {L} talk w d0 a0 D same door none = (
   [],
   refl,
@@ -429,7 +429,7 @@ none_used {L} talk w d0 a0 D same door none = (
 
 module _ {L : Type 0} (a : Made) (talk : L → Option (List Said)) (d0 : Dialling L) (a0 : Admitting L) (listens : Bool) where
   -- The time goes on.
-  fine_later : (D : Admitting L) (from t : ℕ) (early : from < 2 ^ 62) (below : t < 2 ^ 62) (n : Log) (w : World L) → from ≤ t → Fine a talk d0 a0 D from early n w → Fine a talk d0 a0 D t below n w
+  pub fine_later : (D : Admitting L) (from t : ℕ) (early : from < 2 ^ 62) (below : t < 2 ^ 62) (n : Log) (w : World L) → from ≤ t → Fine a talk d0 a0 D from early n w → Fine a talk d0 a0 D t below n w
   fine_later D from t early below n w later (h, u, gone) = (
     (
       record {
@@ -493,7 +493,7 @@ pub runs_use_links : {L : Type 0} (talk : L → Option (List Said)) → RunsUseL
 runs_use_links talk a terms end o p M asked r = run_uses a talk terms.listens end terms.turns terms.script.now asked o p M r
 
 -- A node that draws its words is a log alone.
-log_alone : {W : Type 0} (drawn : NodeEvent → W → W → Type 0) (a : Made) → Maps (GoesDrawing (GoesAsDefined a) drawn) (GoesAsDefined a) (λ (d : Drawing Log W). d.node)
+pub log_alone : {W : Type 0} (drawn : NodeEvent → W → W → Type 0) (a : Made) → Maps (GoesDrawing (GoesAsDefined a) drawn) (GoesAsDefined a) (λ (d : Drawing Log W). d.node)
 log_alone drawn a n m t e actions g = g.0
 
 pub script_runs_use_links : {L W : Type 0} (talk : L → Option (List Said)) (drawn : NodeEvent → W → W → Type 0) → ScriptRunsUseLinks talk drawn

@@ -4,47 +4,34 @@ use Rattle.std.specs.Prelude.{codes, length}
 use Rattle.bsc_octets.specs.Identities.{identity_of}
 use Rattle.bsc_connector.specs.declared.side.Side.TheVariants.{Primary}
 use Rattle.bsc_edge.specs.declared.dialled.Dialled.{Dialled}
+use Rattle.bsc_edge.specs.declared.fault.LinkFault.TheVariants.{NoMemory}
 use Rattle.bsc_edge.specs.declared.incoming.Incoming.TheVariants.{Closed, Message, Quiet}
 use Rattle.bsc_edge.specs.declared.kind.Kind.TheVariants.{Hub as HubKind}
 use Rattle.bsc_edge.specs.declared.said.Said.{Said}
 use Rattle.bsc_edge.specs.declared.said.Said.TheVariants.{Gave, Put}
 use Rattle.bsc_node.specs.declared.link_name.LinkName.{LinkName}
 use Rattle.bsc_node.specs.declared.link_name.LinkName.TheVariants.{Hub, Direct}
-use Rattle.bsc_node.specs.declared.node_event.NodeEvent.{NodeEvent}
 use Rattle.bsc_node.specs.declared.node_event.NodeEvent.TheVariants.{Start, Opened, DialFailed, Arrived, Came, Lost, Send, Tick}
 use Rattle.bsc_node.specs.declared.timed_event.TimedEvent.{TimedEvent}
 use Rattle.bsc_node.specs.Conditions.{may_all_come}
 use Rattle.bsc_node.specs.Links.{begins}
-use Rattle.bsc_node.specs.Logs.{Made, Line}
+use Rattle.bsc_node.specs.Logs.{Line}
 use Rattle.bsc_node.specs.Node.{log}
 use Rattle.bsc_node.proofs.OnLiterals.{node_on_literals}
 use Rattle.bsc_node_run.specs.Receiving.{link_wait}
+use Rattle.bsc_node_run.specs.Worlds.{Dialling}
 use Rattle.bsc_node_links.specs.Coming.{arrived_by, by_lines, dialled_by, link_by}
 use Rattle.bsc_node_links.specs.Lives.{LinkLife, given_over, put_over}
+use Rattle.bsc_node_links.specs.Stopped.{HasDialledFirst}
 use Rattle.bsc_node_links.specs.Talks.{AreFirstOf, given_in, put_in}
 use Rattle.bsc_node_links.specs.Using.{HasUse}
+use Rattle.bsc_node_links.proofs.NodeWords.{at, node, own_octets}
 
--- the octets of the hub's identity, and of the node's
+-- the octets of the hub's identity
 abbrev hub_octets : List ℕ
 hub_octets = 0x02 ∷ 0x00 ∷ 0x00 ∷ 0x00 ∷ 0x00 ∷ 0x01 ∷ (replicate 16 0x01 ++ 0x06 ∷ 0x40 ∷ 0x05 ∷ 0xD9 ∷ [])
 
-abbrev own_octets : List ℕ
-own_octets = 0x02 ∷ 0x00 ∷ 0x00 ∷ 0x00 ∷ 0x00 ∷ 0x0A ∷ (replicate 16 0x0A ++ 0x06 ∷ 0x40 ∷ 0x05 ∷ 0xD9 ∷ [])
-
-abbrev node : Made
-node = record {
-  own = identity_of own_octets;
-  limits = record {
-    times = record { connect_wait = 10000; disconnect_wait = 10000; heartbeat = 300000 };
-    primary = codes "ws://p/";
-    failover = None;
-    uris = None;
-    least_wait = 1000;
-    greatest_wait = 60000;
-  };
-}
-
--- its connect, the accept that answers it, an NPDU that it sends to itself, and as that comes back
+-- the node's connect, the accept that answers it, an NPDU that it sends to itself, and as that comes back
 abbrev connect : ℕ → List ℕ
 connect id = 0x06 ∷ 0x00 ∷ 0x00 ∷ id ∷ own_octets
 
@@ -56,9 +43,6 @@ to_itself = 0x01 ∷ 0x04 ∷ 0x00 ∷ 0x02 ∷ 0x02 ∷ 0x00 ∷ 0x00 ∷ 0x00 
 
 abbrev back : List ℕ
 back = 0x01 ∷ 0x08 ∷ 0x00 ∷ 0x02 ∷ 0x02 ∷ 0x00 ∷ 0x00 ∷ 0x00 ∷ 0x00 ∷ 0x0A ∷ 0x01 ∷ 0x00 ∷ []
-
-abbrev at : ℕ → NodeEvent → TimedEvent
-at now event = record { now = now; event = event }
 
 -- It starts, its link opens, the hub accepts it, it sends an NPDU to itself, another link arrives, the hub passes the NPDU on to it, and
 -- the link of the hub is lost. When it has waited it dials the hub again; that link is lost too, and the next dial fails.
@@ -166,3 +150,39 @@ two_were_made = refl
 one_arrived : by_lines arrived_by (log node events) links ≡ [] ∷ []
 unfolding node_on_literals
 one_arrived = refl
+
+-- ---- runs that a fault stopped
+
+-- It starts, and its link opens.
+abbrev opening : List TimedEvent
+opening = at 0 Start ∷ at 0 (Opened (Hub Primary)) ∷ []
+
+-- There was no memory for its connect: it may have gone out, or not.
+abbrev without_memory : List Said
+without_memory = Put (connect 1) (Some NoMemory) ∷ []
+
+it_took_the_connect : HasUse tells_all (Some []) (given_over (log node opening) first) (put_over (log node opening) first)
+unfolding node_on_literals
+it_took_the_connect = (without_memory, record { T = without_memory; grows = refl; gave = refl; took = ([], refl) })
+
+-- There was no memory for what it was told: nothing of what follows was put.
+it_took_nothing : HasUse tells_all (Some []) (given_over (log node opening) first) (put_over (log node opening) first)
+unfolding node_on_literals
+it_took_nothing = ([], record { T = []; grows = refl; gave = refl; took = (connect 1 ∷ [], refl) })
+
+-- what a dialer tells that was called so
+abbrev dialler : List Dialled → Dialling (List Said)
+dialler calls = record { calls = Some calls; left = None; came = None; faults = 0 }
+
+-- no link for any line
+abbrev no_links : List TimedEvent → List (Option (List Said))
+no_links before = replicate (length (log node before)) None
+
+-- It had no memory for its first dial, or none for its start: the log has the dial either way, and the dialer was called or not.
+it_dialled : HasDialledFirst (dialler []) (dialler (call false ∷ [])) (log node (at 0 Start ∷ [])) (no_links (at 0 Start ∷ []))
+unfolding node_on_literals
+it_dialled = record { called = call false ∷ []; uncalled = []; parts = refl; calls = refl; left = tt; came = tt }
+
+it_never_dialled : HasDialledFirst (dialler []) (dialler []) (log node (at 0 Start ∷ [])) (no_links (at 0 Start ∷ []))
+unfolding node_on_literals
+it_never_dialled = record { called = []; uncalled = call false ∷ []; parts = refl; calls = refl; left = tt; came = tt }

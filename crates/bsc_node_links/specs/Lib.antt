@@ -3,3 +3,4 @@ pub mod Lives
 pub mod Coming
 pub mod Using
 pub mod Telling
+pub mod Stopped

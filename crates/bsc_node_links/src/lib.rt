@@ -8,5 +8,6 @@ mod laws;
 
 pub use laws::{
     arrived_came_fresh, dialled_came_fresh, links_are_fresh, links_came_fresh, links_tell,
-    runs_use_links, script_runs_use_links,
+    runs_use_links, script_runs_use_links, stopped_links_tell, stopped_runs_have_logs,
+    stopped_scripts_have_logs,
 };

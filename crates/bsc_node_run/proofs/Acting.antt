@@ -5,7 +5,7 @@ use Rattle.std.proofs.lemmas.Option.{slice_get-get_or, slice_get_past}
 use Rattle.std.proofs.lemmas.List.{get_or-set_same, length-set}
 use Rattle.bsc_connector.specs.declared.side.Side.TheVariants.{Primary, Failover}
 use Rattle.bsc_direct.specs.declared.bounds.TheConstants.{SLOTS}
-use Rattle.bsc_edge.specs.declared.fault.LinkFault.TheVariants.{Failed}
+use Rattle.bsc_edge.specs.declared.fault.LinkFault.TheVariants.{Failed, NoMemory}
 use Rattle.bsc_edge.specs.declared.said.Said.{Said}
 use Rattle.bsc_edge.specs.Told.{Grows}
 use Rattle.bsc_accept.specs.declared.closing.Closing.{Closing}
@@ -15,8 +15,9 @@ use Rattle.bsc_node.specs.Links.{same_link}
 use Rattle.bsc_node_run.specs.declared.news.Change.TheVariants.{Opened, DialFailed, Lost}
 use Rattle.bsc_node_run.specs.Worlds.{World, Same, with_link, with_news, with_over, without_arrived, ends, forgets, link_among, link_if, is_name}
 use Rattle.bsc_node_run.specs.Performing.{Dials, IsAnswered, Takes, Refuses, IsClosed, Puts, Closes, kind_of}
+use Rattle.bsc_node_run.specs.Stopping.{ClosesPart, IsOut, PutsPart, RefusesPart}
 use Rattle.bsc_node_run.specs.Calling.{IsPut}
-use Rattle.bsc_node_run.proofs.Worlds.{same_then, on_link, on_news, on_over, link_news, ends_again, closed_so, closed_none, none_kept}
+use Rattle.bsc_node_run.proofs.Worlds.{same_then, on_link, on_news, on_over, link_again, link_news, ends_again, closed_so, closed_none, none_kept}
 use Rattle.bsc_lemmas.proofs.Booleans.{eq_self as same_number}
 
 -- ---- a link in a slot
@@ -92,6 +93,11 @@ module _ {L : Type 0} (talk : L → Option (List Said)) where
       → (m : L) × IsClosed talk c l m × Same v (with_over m x) → Refuses talk c w.arrived w v
   refuses_some c w x v l e s k = subst (λ (o : Option L). Refuses talk c o w v) e (k.0, k.1, same_then v (with_over k.0 x) (with_over k.0 (without_arrived w)) k.2 (on_over x (without_arrived w) k.0 s))
 
+  -- It was closed, and there was no memory to keep it.
+  pub refuses_part : (c : Closing) (w x v : World L) (l : L) → Some l ≡ w.arrived → Same x (without_arrived w)
+      → (m : L) × IsClosed talk c l m × Same v x → RefusesPart talk c w.arrived w v
+  refuses_part c w x v l e s k = subst (λ (o : Option L). RefusesPart talk c o w v) e (k.0, k.1, same_then v x (without_arrived w) k.2 s)
+
   -- ---- puts
 
   pub puts_ok : (name : LinkName) (o : List ℕ) (before after : Option L) (w v : World L) → before ≡ w.link name → IsPut talk o before after (Ok tt)
@@ -115,6 +121,26 @@ module _ {L : Type 0} (talk : L → Option (List Said)) where
   puts_failed name o None (Some l) w x v p s lost = absurd p
   puts_failed name o None None w x v p s lost = absurd p
 
+  -- There was no memory for a put.
+  pub puts_unmet : (name : LinkName) (o : List ℕ) (before after : Option L) (w v : World L) → IsPut talk o before after (Err NoMemory)
+      → Same v (with_link name after w) → PutsPart talk name o before w v
+  puts_unmet name o (Some k) (Some l) w v p s = (l, inl (p, s))
+  puts_unmet name o (Some k) None w v p s = absurd p
+  puts_unmet name o None (Some l) w v p s = absurd p
+  puts_unmet name o None None w v p s = absurd p
+
+  -- A put failed, and there was no memory for what follows.
+  pub puts_lost : (name : LinkName) (o : List ℕ) (before after : Option L) (w x v : World L) → IsPut talk o before after (Err Failed)
+      → Same x (with_link name after w) → ((l : L) → after ≡ Some l → IsOut name l x v) → PutsPart talk name o before w v
+  puts_lost name o (Some k) (Some l) w x v p s lost = (l, inr (p, by (lost l refl)))
+    where
+      by : IsOut name l x v → IsOut name l w v
+      by (inl t) = inl (same_then v (ends name l x) (ends name l w) t (ends_again w x name (Some l) l s))
+      by (inr t) = inr (link_again w x v name (Some l) None s t)
+  puts_lost name o (Some k) None w x v p s lost = absurd p
+  puts_lost name o None (Some l) w x v p s lost = absurd p
+  puts_lost name o None None w x v p s lost = absurd p
+
   -- ---- closes
 
   pub closes_none : (name : LinkName) (c : Closing) (w a v : World L) → Same a (forgets name w) → None ≡ a.link name → Same v (with_link name None a) → Closes talk name c (w.link name) w v
@@ -123,3 +149,10 @@ module _ {L : Type 0} (talk : L → Option (List Said)) where
   pub closes_some : (name : LinkName) (c : Closing) (w a x v : World L) (l : L) → Same a (forgets name w) → Some l ≡ a.link name → Same x (with_link name None a)
       → (m : L) × IsClosed talk c l m × Same v (with_over m x) → Closes talk name c (w.link name) w v
   closes_some name c w a x v l s e t k = subst (λ (o : Option L). Closes talk name c o w v) (e ∙ s.link name) (k.0, k.1, closed_so w a x v name k.0 s t k.2)
+
+  -- It was closed, and there was no memory to keep it.
+  pub closes_part : (name : LinkName) (c : Closing) (w a x v : World L) (l : L) → Same a (forgets name w) → Some l ≡ a.link name → Same x (with_link name None a)
+      → (m : L) × IsClosed talk c l m × Same v x → ClosesPart talk name c (w.link name) w v
+  closes_part name c w a x v l s e t k =
+      let out : Same x (with_link name None (forgets name w)) = same_then x (with_link name None a) (with_link name None (forgets name w)) t (on_link a (forgets name w) name None s) in
+      subst (λ (o : Option L). ClosesPart talk name c o w v) (e ∙ s.link name) (k.0, k.1, same_then v x (with_link name None (forgets name w)) k.2 out)

@@ -1,83 +1,70 @@
 -- The waits of a run, from its turns.
-use Rattle.std.proofs.Common.{◌≡◌, ◌≤◌, ℕ, ◌-◌, List, [], ◌∷◌, ◌++◌, Option, Some, None, refl, ap, sym, ◌∙◌, subst, append_assoc, append-nil, arith, unwrap_or}
+use Rattle.std.proofs.Common.{◌≡◌, inl, inr, ℕ, ◌-◌, ◌==◌, Bool, true, false, List, [], ◌∷◌, ◌++◌, length, Option, Some, None, refl, ap, sym, ◌∙◌, subst, append_assoc, append-nil, arith, unwrap_or}
+use Rattle.std.proofs.lemmas.Bool.{eqb-true, false≢true}
+use Rattle.bsc_edge.specs.declared.said.Said.{Said}
+use Rattle.bsc_node.specs.declared.node_event.NodeEvent.{NodeEvent}
+use Rattle.bsc_node.specs.declared.action.Action.{Action}
 use Rattle.bsc_node_run.specs.declared.due.Due.{Due}
-use Rattle.bsc_node_run.specs.Resting.{IsOverBy, MayRest, RestsFrom, longest_rest}
-use Rattle.bsc_node_run.specs.Turning.{AreDue, IsNotDue, passed_by}
+use Rattle.bsc_node_run.specs.declared.news.News.{News}
+use Rattle.bsc_node_run.specs.Moments.{Moment, moment}
+use Rattle.bsc_node_run.specs.Resting.{Rested, rest_after, rest_before, until_next}
+use Rattle.bsc_node_run.specs.Running.{IsEmpty}
+use Rattle.bsc_node_run.specs.Turning.{Turn}
+use Rattle.bsc_node_run.specs.Worlds.{Admitting, Dialling, World}
 
--- ---- the lines that were given
+-- ---- one wait
 
-due_later : (a b : ℕ) (xs : List Due) → a ≤ b → AreDue a xs → AreDue b xs
-due_later a b [] le due = tt
-due_later a b (x ∷ xs) le (first, due) = (omega (arith, le, first), due_later a b xs le due)
+-- something is left to be told of a link
+pub rest_told : (passed count : ℕ) (left : List Due) (waiting : List News) → count ≡ length waiting → (count == 0) ≡ false → 0 ≡ rest_after passed left waiting
+rest_told passed count left [] is some = absurd (false≢true (sym some ∙ ap (λ n. n == 0) is))
+rest_told passed count left (news ∷ more) is some = refl
 
-due_both : (passed : ℕ) (xs ys : List Due) → AreDue passed xs → AreDue passed ys → AreDue passed (xs ++ ys)
-due_both passed [] ys due more = more
-due_both passed (x ∷ xs) ys (first, due) more = (first, due_both passed xs ys due more)
+-- nothing is
+pub rest_untold : (passed count : ℕ) (left : List Due) (waiting : List News) → count ≡ length waiting → (count == 0) ≡ true → until_next passed left ≡ rest_after passed left waiting
+rest_untold passed count left [] is none = refl
+rest_untold passed count left (news ∷ more) is none = absurd (omega (arith, is, eqb-true count 0 none))
 
-passed_rises : (start : Option ℕ) (a b : ℕ) → a ≤ b → passed_by start a ≤ passed_by start b
-passed_rises None a b le = omega (arith, le)
-passed_rises (Some start) a b le = omega (arith, le)
+-- What is waited before the next turn.
+pub rest_so : (now first passed wait : ℕ) (left : List Due) (waiting : List News) → passed ≡ now - first → wait ≡ rest_after passed left waiting
+    → wait ≡ rest_before (Some first) now left waiting
+rest_so now first passed wait left waiting is so = so ∙ ap (λ p. rest_after p left waiting) is
 
--- These lines of the script are left, and those in front of them were due at this time.
-pub record AreLeft (script left : List Due) (start : Option ℕ) (newest : ℕ) : Type 0 where
-  pub lines : List Due
-  pub parts : script ≡ lines ++ left
-  pub due : AreDue (passed_by start newest) lines
+-- ---- a run of no turns
 
--- All are left at first.
-pub all_left : (script : List Due) → AreLeft script script None 0
-all_left script = record { lines = []; parts = refl; due = tt }
+-- There are no links before the first turn, and nothing is new.
+abbrev pub nothing_yet : {L : Type 0} → Dialling L → Option (List ℕ) → World L
+nothing_yet dialled held = record { link = λ name. None; arrived = None; over = []; due = []; waiting = []; finished = false; dialled = dialled; held = held }
 
--- A turn gave some more of them. Their times count from the first turn.
-pub left_then : (script left rest lines : List Due) (start : Option ℕ) (newest now first : ℕ) → AreLeft script left start newest → newest ≤ now
-    → left ≡ lines ++ rest → AreDue (passed_by start now) lines → first ≡ unwrap_or start now → AreLeft script rest (Some first) now
-left_then script left rest lines start newest now first before le parts due is = subst (λ (s : ℕ). AreLeft script rest (Some s) now) (sym is) (record {
-  lines = before.lines ++ lines;
-  parts = before.parts ∙ ap (λ (l : List Due). before.lines ++ l) parts ∙ sym (append_assoc before.lines lines rest);
-  due = due_both (passed_by start now) before.lines lines
-      (due_later (passed_by start newest) (passed_by start now) before.lines (passed_rises start newest now le) before.due) due;
-})
+pub empty_yet : {L : Type 0} (dialled : Dialling L) (held : Option (List ℕ)) → IsEmpty dialled held (nothing_yet dialled held)
+empty_yet dialled held = record { link = λ name. refl; arrived = refl; due = refl; waiting = refl; finished = refl; dialled = refl; held = refl }
 
 -- ---- the waits of a run
 
--- What may be waited before the next turn, by what is left.
-pub rest_so : (script left : List Due) (start : Option ℕ) (now first passed wait : ℕ) → AreLeft script left (Some first) now → first ≡ unwrap_or start now
-    → passed ≡ now - first → IsNotDue (passed_by start now) left → wait ≤ longest_rest → (IsNotDue passed left → IsOverBy passed wait left)
-    → MayRest script (Some first) now wait
-rest_so script left start now first passed wait are begun is next short over =
-    let coming : IsNotDue (now - first) left = subst (λ (s : ℕ). IsNotDue (now - s) left) (sym begun) next in (
-      short,
-      record {
-        lines = are.lines;
-        rest = left;
-        parts = are.parts;
-        due = are.due;
-        next = coming;
-        over = subst (λ (p : ℕ). IsNotDue p left → IsOverBy p wait left) is over coming;
-      },
-    )
+module _ {N L : Type 0} (goes : N → ℕ → NodeEvent → List Action → N → Type 0) (talk : L → Option (List Said)) (listens : Bool) (script : List Due) (first : Moment N L) where
+  -- Turns from here on go on with those that were made.
+  abbrev pub GoOn : List ℕ → List ℕ → Option ℕ → ℕ → List Due → Moment N L → Type 0
+  GoOn times waits start newest rest here = (more others : List ℕ) → Rested goes talk listens more others start newest rest here
+      → Rested goes talk listens (times ++ more) (waits ++ others) None 0 script first
 
--- One wait and one turn more behind those that were made.
-pub rests_more : (script : List Due) (times waits : List ℕ) (start : Option ℕ) (newest now first wait : ℕ)
-    → ((more others : List ℕ) → RestsFrom script start newest more others → RestsFrom script None 0 (times ++ more) (waits ++ others))
-    → MayRest script start newest wait → first ≡ unwrap_or start now
-    → (more others : List ℕ) → RestsFrom script (Some first) now more others
-    → RestsFrom script None 0 ((times ++ now ∷ []) ++ more) ((waits ++ wait ∷ []) ++ others)
-rests_more script times waits start newest now first wait made may is more others k =
-    subst (λ (ts : List ℕ). RestsFrom script None 0 ts ((waits ++ wait ∷ []) ++ others)) (sym (append_assoc times (now ∷ []) more))
-    (subst (λ (ws : List ℕ). RestsFrom script None 0 (times ++ now ∷ more) ws) (sym (append_assoc waits (wait ∷ []) others))
-    (made (now ∷ more) (wait ∷ others) (may, subst (λ (s : ℕ). RestsFrom script (Some s) now more others) is k)))
+  -- One wait and one turn more behind those that were made.
+  pub rested_more : (times waits : List ℕ) (start : Option ℕ) (newest now begun wait : ℕ) (rest rest' : List Due) (p q : N) (x y : World L) (mid mid' : Admitting L)
+      → GoOn times waits start newest rest (moment p x mid) → wait ≡ rest_before start newest rest x.waiting → begun ≡ unwrap_or start now
+      → Turn goes talk now start rest rest' listens (moment p x mid) (moment q y mid')
+      → GoOn (times ++ now ∷ []) (waits ++ wait ∷ []) (Some begun) now rest' (moment q y mid')
+  rested_more times waits start newest now begun wait rest rest' p q x y mid mid' made so is t more others k =
+      subst (λ (ts : List ℕ). Rested goes talk listens ts ((waits ++ wait ∷ []) ++ others) None 0 script first) (sym (append_assoc times (now ∷ []) more))
+      (subst (λ (ws : List ℕ). Rested goes talk listens (times ++ now ∷ more) ws None 0 script first) (sym (append_assoc waits (wait ∷ []) others))
+      (made (now ∷ more) (wait ∷ others) (so, inr (rest', q, y, mid', t, subst (λ (s : ℕ). Rested goes talk listens more others (Some s) now rest' (moment q y mid')) is k))))
 
--- The wait of the turn that was the last.
-pub rests_now : (script : List Due) (times waits : List ℕ) (start : Option ℕ) (newest now wait : ℕ)
-    → ((more others : List ℕ) → RestsFrom script start newest more others → RestsFrom script None 0 (times ++ more) (waits ++ others))
-    → MayRest script start newest wait → RestsFrom script None 0 (times ++ now ∷ []) (waits ++ wait ∷ [])
-rests_now script times waits start newest now wait made may = made (now ∷ []) (wait ∷ []) (may, tt)
+  -- The wait of the turn that was the last.
+  pub rested_now : (times waits : List ℕ) (start : Option ℕ) (newest now wait : ℕ) (rest : List Due) (p : N) (x : World L) (mid : Admitting L)
+      → GoOn times waits start newest rest (moment p x mid) → wait ≡ rest_before start newest rest x.waiting
+      → Rested goes talk listens (times ++ now ∷ []) (waits ++ wait ∷ []) None 0 script first
+  rested_now times waits start newest now wait rest p x mid made so = made (now ∷ []) (wait ∷ []) (so, inl (refl, refl))
 
--- Those that were made, and no more.
-pub rests_all : (script : List Due) (times waits : List ℕ) (start : Option ℕ) (newest : ℕ)
-    → ((more others : List ℕ) → RestsFrom script start newest more others → RestsFrom script None 0 (times ++ more) (waits ++ others))
-    → RestsFrom script None 0 times waits
-rests_all script times waits start newest made =
-    subst (λ (ts : List ℕ). RestsFrom script None 0 ts waits) (append-nil times)
-    (subst (λ (ws : List ℕ). RestsFrom script None 0 (times ++ []) ws) (append-nil waits) (made [] [] tt))
+  -- Those that were made, and no more.
+  pub rested_all : (times waits : List ℕ) (start : Option ℕ) (newest : ℕ) (rest : List Due) (here : Moment N L) → GoOn times waits start newest rest here
+      → Rested goes talk listens times waits None 0 script first
+  rested_all times waits start newest rest here made =
+      subst (λ (ts : List ℕ). Rested goes talk listens ts waits None 0 script first) (append-nil times)
+      (subst (λ (ws : List ℕ). Rested goes talk listens (times ++ []) ws None 0 script first) (append-nil waits) (made [] [] tt))

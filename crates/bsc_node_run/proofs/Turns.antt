@@ -1,5 +1,5 @@
 -- The parts of a turn, from what its steps did.
-use Rattle.std.proofs.Common.{◌≡◌, ◌≤◌, ◌<◌, ℕ, suc, ◌+◌, ◌-◌, true, false, not, ◌&&◌, List, [], ◌∷◌, length, Option, Some, None, is_some, Result, Ok, Err, get_or, take, drop, refl, ap, sym, ◌∙◌, subst, arith}
+use Rattle.std.proofs.Common.{◌≡◌, ◌≤◌, ◌<◌, inl, inr, ℕ, suc, ◌+◌, ◌-◌, true, false, not, ◌&&◌, List, [], ◌∷◌, length, Option, Some, None, is_some, Result, Ok, Err, get_or, take, drop, refl, ap, sym, ◌∙◌, subst, arith}
 use Rattle.std.specs.List.{list_any}
 use Rattle.std.proofs.lemmas.Bool.{false≢true}
 use Rattle.std.proofs.lemmas.List.{take_all}
@@ -17,7 +17,8 @@ use Rattle.bsc_node.specs.declared.action.Action.{Action}
 use Rattle.bsc_node_run.specs.declared.due.Due.{Due}
 use Rattle.bsc_node_run.specs.declared.news.News.{News}
 use Rattle.bsc_node_run.specs.Calling.{IsHeard}
-use Rattle.bsc_node_run.specs.Receiving.{Received, WasGiven, left_by, told_of}
+use Rattle.bsc_node_run.specs.Receiving.{IsLast, Received, WasGiven, left_by, told_of}
+use Rattle.bsc_node_run.specs.Stopping.{Misses}
 use Rattle.bsc_node_run.specs.Turning.{Gives, GivesIn, HearsEach, HearsIf, HearsOf, IsNotDue, LinkHears, slots_from}
 use Rattle.bsc_node_run.specs.Worlds.{World, Same, is_of, is_open, with_link, ends}
 use Rattle.bsc_node_run.proofs.Worlds.{same}
@@ -64,6 +65,22 @@ module _ {L : Type 0} (talk : L → Option (List Said)) where
   received name (Some k) None given e w v ok g told s = absurd g
   received name None (Some l) given e w v ok g told s = absurd g
   received name None None given e w v ok g told s = absurd g
+
+  -- There was no memory for what was received.
+  pub missed_memory : (name : LinkName) (before after : Option L) (w v : World L) → IsHeard talk before after (Some (Err NoMemory))
+      → ((l : L) → after ≡ Some l → Same v (with_link name (Some l) w)) → Misses talk name before w v
+  missed_memory name (Some k) (Some l) w v g s = (l, inl (g, s l refl))
+  missed_memory name (Some k) None w v g s = absurd g
+  missed_memory name None (Some l) w v g s = absurd g
+  missed_memory name None None w v g s = absurd g
+
+  -- The link is over, and there was no memory to keep it.
+  pub missed_last : (name : LinkName) (before after : Option L) (given : Result Incoming LinkFault) (w v : World L) → IsLast given → IsHeard talk before after (Some given)
+      → Same v (with_link name None w) → Misses talk name before w v
+  missed_last name (Some k) (Some l) given w v last g s = (l, inr (given, last, g, s))
+  missed_last name (Some k) None given w v last g s = absurd g
+  missed_last name None (Some l) given w v last g s = absurd g
+  missed_last name None None given w v last g s = absurd g
 
   -- nothing is received where there is no link
   pub unheard : (name : LinkName) (before after : Option L) (w v : World L) → IsHeard talk before after None → Received talk name before None w v

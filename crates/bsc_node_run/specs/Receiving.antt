@@ -31,6 +31,13 @@ WasGiven (Ok given) = ⊤
 WasGiven (Err Failed) = ⊤
 WasGiven (Err NoMemory) = ⊥
 
+-- A link gives nothing after this: it is over.
+abbrev pub IsLast : Result Incoming LinkFault → Type 0
+IsLast (Ok Closed) = ⊤
+IsLast (Ok given) = ⊥
+IsLast (Err Failed) = ⊤
+IsLast (Err NoMemory) = ⊥
+
 module _ {L : Type 0} where
   -- what becomes of the link
   abbrev pub left_by : LinkName → L → Result Incoming LinkFault → World L → World L

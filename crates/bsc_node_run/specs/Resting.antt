@@ -1,48 +1,53 @@
 -- How long a node waits between the turns of a run.
-use Rattle.std.specs.Prelude.{◌≡◌, ◌≤◌, ℕ, ◌+◌, ◌-◌, List, [], ◌∷◌, ◌++◌, Option, Some, None, unwrap_or, ⊤}
+use Rattle.std.specs.Prelude.{◌≡◌, ◌⊎◌, ℕ, ◌-◌, min, Bool, List, [], ◌∷◌, Option, Some, None, unwrap_or, ⊤}
+use Rattle.bsc_edge.specs.declared.said.Said.{Said}
 use Rattle.bsc_edge.specs.Told.{Grows}
+use Rattle.bsc_node.specs.declared.node_event.NodeEvent.{NodeEvent}
+use Rattle.bsc_node.specs.declared.action.Action.{Action}
 use Rattle.bsc_node_run.specs.declared.bounds.TheConstants.{LONGEST_REST_MS}
 use Rattle.bsc_node_run.specs.declared.due.Due.{Due}
-use Rattle.bsc_node_run.specs.Turning.{AreDue, IsNotDue}
+use Rattle.bsc_node_run.specs.declared.news.News.{News}
+use Rattle.bsc_node_run.specs.Moments.{Moment, RunMoment, moment}
+use Rattle.bsc_node_run.specs.Running.{DontFall, IsEmpty}
+use Rattle.bsc_node_run.specs.Turning.{Turn}
+use Rattle.bsc_node_run.specs.Worlds.{Admitting, World}
 
 -- No wait is longer, in milliseconds.
 abbrev pub longest_rest : ℕ
 longest_rest = LONGEST_REST_MS
 
--- A wait that begins when so much time has passed is over by the time of the first of these, where there is one.
-abbrev pub IsOverBy : ℕ → ℕ → List Due → Type 0
-IsOverBy passed wait [] = ⊤
-IsOverBy passed wait (d ∷ lines) = passed + wait ≤ d.at
+-- How long it is, once so much time has passed, until the first of these lines of the script; and 50 ms at most.
+abbrev pub until_next : ℕ → List Due → ℕ
+until_next passed [] = longest_rest
+until_next passed (d ∷ lines) = min longest_rest (d.at - passed)
 
--- A wait that begins when so much time has passed is over by the time of the next line of the script: of the first one that
--- isn't due yet.
-pub record IsOverInTime (script : List Due) (passed wait : ℕ) : Type 0 where
-  pub lines : List Due
-  pub rest : List Due
-  pub parts : script ≡ lines ++ rest
-  pub due : AreDue passed lines
-  pub next : IsNotDue passed rest
-  pub over : IsOverBy passed wait rest
+-- How long is waited when so much time has passed, where these lines of the script are left and this is new of links: not at all
+-- where something is new, and else until the next line.
+abbrev pub rest_after : ℕ → List Due → List News → ℕ
+rest_after passed left [] = until_next passed left
+rest_after passed left (news ∷ more) = 0
 
--- How long may be waited before a turn, by the times of the first turn and of the one before: before the first not at all; else
--- 50 ms at most, and no longer than it was, at the turn before, until the time of the next line of the script.
-abbrev pub MayRest : List Due → Option ℕ → ℕ → ℕ → Type 0
-MayRest script None newest wait = wait ≡ 0
-MayRest script (Some start) newest wait = (wait ≤ longest_rest) × IsOverInTime script (newest - start) wait
+-- How long is waited before a turn, by the times of the first turn and of the one before: before the first not at all.
+abbrev pub rest_before : Option ℕ → ℕ → List Due → List News → ℕ
+rest_before None newest left waiting = 0
+rest_before (Some start) newest left waiting = rest_after (newest - start) left waiting
 
--- There is one wait before each of the turns at these times.
-abbrev pub RestsFrom : List Due → Option ℕ → ℕ → List ℕ → List ℕ → Type 0
-RestsFrom script start newest [] [] = ⊤
-RestsFrom script start newest (now ∷ times) (wait ∷ waits) =
-    MayRest script start newest wait × RestsFrom script (Some (unwrap_or start now)) now times waits
-RestsFrom script start newest times waits = ⊥
+module _ {N L : Type 0} (goes : N → ℕ → NodeEvent → List Action → N → Type 0) (talk : L → Option (List Said)) (listens : Bool) where
+  -- Turns at these times, each behind a wait of this length, by what of the script and of the links was left to be told before it.
+  -- The last of them may have been broken off.
+  abbrev pub Rested : List ℕ → List ℕ → Option ℕ → ℕ → List Due → Moment N L → Type 0
+  Rested [] [] start newest script before = ⊤
+  Rested (now ∷ times) (wait ∷ waits) start newest script before = (wait ≡ rest_before start newest script before.hands.world.waiting)
+      × (((times ≡ []) × (waits ≡ []))
+      ⊎ ((rest : List Due) × (p : N) × (x : World L) × (mid : Admitting L)
+      × Turn goes talk now start script rest listens before (moment p x mid)
+      × Rested times waits (Some (unwrap_or start now)) now rest (moment p x mid)))
+  Rested times waits start newest script before = ⊥
 
--- The waits before all turns of a run, which were made at these times.
-abbrev pub Rests : List Due → List ℕ → List ℕ → Type 0
-Rests script times waits = RestsFrom script None 0 times waits
-
--- How a node waited in a run: once before each turn, by the readings of the clock and the waits that were asked for, each as far
--- as it is told.
-abbrev pub HasRested : List Due → Option (List ℕ) → Option (List ℕ) → Option (List ℕ) → Option (List ℕ) → Type 0
-HasRested script told told' asked asked' =
-    (times waits : List ℕ) × Grows told told' times × Grows asked asked' waits × Rests script times waits
+  -- How a node waited in a run, whatever ended it: once before each turn, by the readings of the clock and the waits that were
+  -- asked for, each as far as it is told.
+  abbrev pub HasRested : List Due → RunMoment N L → Option (List ℕ) → Option (List ℕ) → Option (List ℕ) → Type 0
+  HasRested script before told asked asked' =
+      (times waits : List ℕ) × (first : World L) × IsEmpty before.out.dialled before.out.written first × DontFall 0 times
+      × Grows before.out.readings told times × Grows asked asked' waits
+      × Rested times waits None 0 script (moment before.node first before.out.door)

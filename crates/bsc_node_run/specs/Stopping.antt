@@ -4,15 +4,19 @@ use Rattle.std.specs.Prelude.{◌≡◌, ◌≤◌, ℕ, ◌⊎◌, Bool, true, 
 use Rattle.std.specs.Prelude.{length, unwrap_or}
 use Rattle.bsc_outside.specs.Faults.{PutsPrefix}
 use Rattle.bsc_edge.specs.declared.arrived.Arrived.TheVariants.{Link}
+use Rattle.bsc_accept.specs.declared.closing.Closing.{Closing}
 use Rattle.bsc_edge.specs.declared.fault.LinkFault.{LinkFault}
+use Rattle.bsc_edge.specs.declared.fault.LinkFault.TheVariants.{Failed, NoMemory}
+use Rattle.bsc_edge.specs.declared.incoming.Incoming.{Incoming}
 use Rattle.bsc_edge.specs.declared.said.Said.{Said}
+use Rattle.bsc_edge.specs.declared.said.Said.TheVariants.{Gave, Put as SaidPut}
 use Rattle.bsc_edge.specs.Dialling.{dialled, made_in, Takes as LeavesBehind}
 use Rattle.bsc_edge.specs.Told.{Grows}
 use Rattle.bsc_node.specs.declared.link_name.LinkName.{LinkName}
 use Rattle.bsc_node.specs.declared.node_event.NodeEvent.{NodeEvent}
 use Rattle.bsc_node.specs.declared.node_event.NodeEvent.TheVariants.{Start, Arrived, Tick}
 use Rattle.bsc_node.specs.declared.action.Action.{Action}
-use Rattle.bsc_node.specs.declared.action.Action.TheVariants.{Dial, Deliver, Tell}
+use Rattle.bsc_node.specs.declared.action.Action.TheVariants.{Dial, Take, Refuse, Put, Close, Deliver, Tell, Draw}
 use Rattle.bsc_node.specs.Conditions.{brings_word}
 use Rattle.bsc_node_run.specs.declared.due.Due.{Due}
 use Rattle.bsc_node_run.specs.declared.news.News.{News}
@@ -20,37 +24,77 @@ use Rattle.bsc_node_run.specs.declared.run_terms.RunTerms.{RunTerms}
 use Rattle.bsc_node_run.specs.declared.turn_start.TurnStart.{TurnStart}
 use Rattle.bsc_node_run.specs.Lines.{note_line, delivered_line}
 use Rattle.bsc_node_run.specs.Moments.{Hands, Moment, Outside, RunMoment, in_hands, moment}
-use Rattle.bsc_node_run.specs.Performing.{Carries, Does, kind_of}
-use Rattle.bsc_node_run.specs.Receiving.{Received}
+use Rattle.bsc_node_run.specs.Performing.{Carries, Does, IsClosed, kind_of}
+use Rattle.bsc_node_run.specs.Receiving.{IsLast, Received, link_wait}
 use Rattle.bsc_node_run.specs.Running.{DontFall, IsEmpty}
 use Rattle.bsc_node_run.specs.Turning.{AreDue, Gives, GivesLines, GivesNews, HasAnswered, HearsEach, IsNotDue, LinkHears, Starts, Turn}
 use Rattle.bsc_node_run.specs.Turning.{accept_wait, draws, event_of, names, passed_by}
-use Rattle.bsc_node_run.specs.Worlds.{Admitting, World, Same, begun, is_open}
+use Rattle.bsc_node_run.specs.Worlds.{Admitting, World, Same, begun, ends, forgets, is_open, with_link, without_arrived}
 
 module _ {L : Type 0} where
-  -- Nothing was dialled or written.
-  abbrev pub IsStill : World L → World L → Type 0
-  IsStill w v = (v.dialled ≡ w.dialled) × (v.held ≡ w.held)
-
-  -- A first part of a text was written.
+  -- A first part of a text was written, and nothing else was done.
   abbrev pub WritesPart : List ℕ → World L → World L → Type 0
-  WritesPart text w v = (v.dialled ≡ w.dialled) × PutsPrefix w.held v.held text
+  WritesPart text w v = (v.dialled ≡ w.dialled) × PutsPrefix w.held v.held text × Same v (record w { held = v.held })
 
-  -- An action was carried out in part: a URI was dialled once, and what the dialer answered may have come to nothing; or a
-  -- first part of a line was written. Any other action dials and writes nothing.
+  -- what there is in hand after a dial: the link that came, where one did
+  abbrev pub with_dialled : LinkName → Result L LinkFault → World L → World L
+  with_dialled name (Ok l) w = with_link name (Some l) w
+  with_dialled name (Err fault) w = w
+
+  -- The link of a name, which is this one at last, was taken out. It is kept until the turn is over, or there was no memory for that.
+  abbrev pub IsOut : LinkName → L → World L → World L → Type 0
+  IsOut name m w v = Same v (ends name m w) ⊎ Same v (with_link name None w)
+
+module _ {L : Type 0} (talk : L → Option (List Said)) where
+  -- A message was put on a link, once: there was no memory for that, and the link is there still; or it failed, the link was taken
+  -- out, and there was no memory for that or for what is new of it.
+  abbrev pub PutsPart : LinkName → List ℕ → Option L → World L → World L → Type 0
+  PutsPart name o None w v = ⊥
+  PutsPart name o (Some l) w v = (m : L)
+      × ((Grows (talk l) (talk m) (SaidPut o (Some NoMemory) ∷ []) × Same v (with_link name (Some m) w))
+      ⊎ (Grows (talk l) (talk m) (SaidPut o (Some Failed) ∷ []) × IsOut name m w v))
+
+  -- A link was closed and taken out, and there was no memory to keep it until the turn is over.
+  abbrev pub ClosesPart : LinkName → Closing → Option L → World L → World L → Type 0
+  ClosesPart name c None w v = ⊥
+  ClosesPart name c (Some l) w v = (m : L) × IsClosed talk c l m × Same v (with_link name None (forgets name w))
+
+  -- The link that had arrived was closed, and there was no memory to keep it until the turn is over.
+  abbrev pub RefusesPart : Closing → Option L → World L → World L → Type 0
+  RefusesPart c None w v = ⊥
+  RefusesPart c (Some l) w v = (m : L) × IsClosed talk c l m × Same v (without_arrived w)
+
+  -- An action was carried out in part: a URI was dialled once, and what the dialer answered may have come to nothing; a link was
+  -- put on or closed, and there was no memory for that or for what follows; or a first part of a line was written. That a link is
+  -- taken, or a word drawn, is never done in part.
   abbrev pub DoesPart : Action → World L → World L → Type 0
   DoesPart (Dial name uri) w v = (given : Result L LinkFault)
       × Grows w.dialled.calls v.dialled.calls (dialled uri (kind_of name) given ∷ [])
       × LeavesBehind w.dialled.left v.dialled.left given × Grows w.dialled.came v.dialled.came (made_in given) × (v.held ≡ w.held)
+      × Same v (record (with_dialled name given w) { dialled = v.dialled })
+  DoesPart (Take name) w v = ⊥
+  DoesPart (Refuse c) w v = RefusesPart c w.arrived w v
+  DoesPart (Put name o) w v = PutsPart name o (w.link name) w v
+  DoesPart (Close name c) w v = ClosesPart name c (w.link name) w v
   DoesPart (Deliver d) w v = WritesPart (delivered_line d) w v
   DoesPart (Tell note) w v = WritesPart (note_line note) w v
-  DoesPart action w v = IsStill w v
+  DoesPart Draw w v = ⊥
 
-module _ {L : Type 0} (talk : L → Option (List Said)) where
   -- Actions, of which the first ones were carried out, and the next in part.
   abbrev pub Breaks : List Action → World L → World L → Type 0
   Breaks [] w v = ⊥
   Breaks (a ∷ actions) w v = DoesPart a w v ⊎ ((m : World L) × Does talk a w m × Breaks actions m v)
+
+  -- ---- what is received
+
+  -- A link was waited for once, as long as links are, and the node isn't told what it gave: there was no memory for that, and the
+  -- link is there still; or the link is over and was taken out, and there was no memory to keep it until the turn is over.
+  abbrev pub Misses : LinkName → Option L → World L → World L → Type 0
+  Misses name None w v = ⊥
+  Misses name (Some k) w v = (l : L)
+      × ((Grows (talk k) (talk l) (Gave link_wait (Err NoMemory) ∷ []) × Same v (with_link name (Some l) w))
+      ⊎ ((given : Result Incoming LinkFault) × IsLast given × Grows (talk k) (talk l) (Gave link_wait given ∷ [])
+      × Same v (with_link name None w)))
 
 module _ {N L : Type 0} (goes : N → ℕ → NodeEvent → List Action → N → Type 0) (talk : L → Option (List Said)) (now : ℕ) where
   -- ---- one event
@@ -82,7 +126,7 @@ module _ {N L : Type 0} (goes : N → ℕ → NodeEvent → List Action → N �
   -- There was no memory for what a link gave; or it stopped at that.
   abbrev pub HearStops : LinkName → N → World L → World L → Type 0
   HearStops name n w v = (is_open name w ≡ true)
-      × (IsStill w v ⊎ ((e : NodeEvent) × (x : World L) × Received talk name (w.link name) (Some e) w x × GiveStops e n x v))
+      × (Misses talk name (w.link name) w v ⊎ ((e : NodeEvent) × (x : World L) × Received talk name (w.link name) (Some e) w x × GiveStops e n x v))
 
   abbrev pub EachStop : List LinkName → N → World L → World L → Type 0
   EachStop [] n w v = ⊥

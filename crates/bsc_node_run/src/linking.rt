@@ -1,5 +1,5 @@
 //! The links of a node by their names.
-ghost use Rattle.std.specs.Prelude.{◌≡◌, not, [], ◌∷◌, ◌++◌, true, false, None, Some, Option, is_some, ◌&&◌, OnOk, IfOk};
+ghost use Rattle.std.specs.Prelude.{◌≡◌, not, [], ◌∷◌, ◌++◌, true, false, None, Some, Option, is_some, ◌&&◌, OnErr, OnOk, IfOk};
 ghost use Rattle.std.specs.Prelude.{List, ℕ, ◌<◌, vec_len, slice_get, slice_set};
 ghost use Rattle.std.specs.List.{list_any};
 ghost use Rattle.bsc_node.specs.declared.link_name.LinkName.{LinkName as LinkNameType};
@@ -134,8 +134,12 @@ impl<L: Drop> LinkSet<L> {
 
     /// A link was taken out.
     pub(crate) fn end(&mut self, link: L) -> Result<(), NoMemory>
-        ensures { OnOk result ((d : Dialling L) (h : Option (List ℕ)) →
+        ensures over { OnOk result ((d : Dialling L) (h : Option (List ℕ)) →
             Same (world_of self.new d h) (with_over link (world_of self.old d h))) }
+
+        // Where there is no memory to keep it, all else is as it was.
+        ensures dropped { OnErr result ((d : Dialling L) (h : Option (List ℕ)) →
+            Same (world_of self.new d h) (world_of self.old d h)) }
     {
         match self.over.push(link) {
             Ok(()) => Ok(()),
@@ -145,8 +149,10 @@ impl<L: Drop> LinkSet<L> {
 
     /// The link of a name is over: it is taken out, where there is one.
     pub(crate) fn take_out(&mut self, name: LinkName) -> Result<(), NoMemory>
-        ensures { OnOk result ((d : Dialling L) (h : Option (List ℕ)) (l : L) → link_in self.old name ≡ Some l →
+        ensures over { OnOk result ((d : Dialling L) (h : Option (List ℕ)) (l : L) → link_in self.old name ≡ Some l →
             Same (world_of self.new d h) (ends name l (world_of self.old d h))) }
+        ensures dropped { OnErr result ((d : Dialling L) (h : Option (List ℕ)) →
+            Same (world_of self.new d h) (with_link name None (world_of self.old d h))) }
     {
         match self.replace(name, None) {
             Some(link) => self.end(link),
@@ -156,8 +162,10 @@ impl<L: Drop> LinkSet<L> {
 
     /// Something is new of a link.
     pub(crate) fn note(&mut self, link: LinkName, change: Change) -> Result<(), NoMemory>
-        ensures { OnOk result ((d : Dialling L) (h : Option (List ℕ)) →
+        ensures news { OnOk result ((d : Dialling L) (h : Option (List ℕ)) →
             Same (world_of self.new d h) (with_news link change (world_of self.old d h))) }
+        ensures missed { OnErr result ((d : Dialling L) (h : Option (List ℕ)) →
+            Same (world_of self.new d h) (world_of self.old d h)) }
     {
         match self.waiting.push_back(News { link, change }) {
             Ok(()) => Ok(()),

@@ -8,7 +8,7 @@ ghost use Rattle.bsc_node_run.specs.Lines.{delivered_line, note_line};
 ghost use Rattle.bsc_node_run.specs.declared.news.Change.TheVariants.{Lost};
 ghost use Rattle.bsc_node_run.specs.Performing.{Carries, Closes, Dials, Does, IsClosed, Puts, Refuses, Takes, Tells};
 ghost use Rattle.bsc_node_run.specs.Performing.{Writes, is_end, kind_of};
-ghost use Rattle.bsc_node_run.specs.Stopping.{Breaks, DoesPart};
+ghost use Rattle.bsc_node_run.specs.Stopping.{Breaks, ClosesPart, DoesPart, IsOut, PutsPart, RefusesPart, WritesPart};
 ghost use Rattle.bsc_node_run.specs.Worlds.{Dialling, Same, dialling, ends, link_in, with_news, with_over, world_of};
 ghost use Rattle.std.specs.Io.KnownBytes.{Appends};
 
@@ -45,7 +45,7 @@ fn dial<L: Link + Drop, D: Dialer<L>>(
         Dials name uri.now (world_of set.old (dialling D.calls D.left D.came D.faults dialer.old) h)
         (world_of set.new (dialling D.calls D.left D.came D.faults dialer.new) h)) }
     ensures part { OnErr result ((h : Option (List ℕ)) →
-        DoesPart (Dial name uri.now) (world_of set.old (dialling D.calls D.left D.came D.faults dialer.old) h)
+        DoesPart L.talk (Dial name uri.now) (world_of set.old (dialling D.calls D.left D.came D.faults dialer.old) h)
         (world_of set.new (dialling D.calls D.left D.came D.faults dialer.new) h)) }
 {
     match dialer.dial(alloc, uri, kind_of(name)) {
@@ -78,8 +78,10 @@ fn close_link<L: Link + Drop>(
     link: L,
     closing: Closing,
 ) -> Result<(), NoMemory>
-    ensures { OnOk result ((d : Dialling L) (h : Option (List ℕ)) →
+    ensures closes { OnOk result ((d : Dialling L) (h : Option (List ℕ)) →
         (m : L) × IsClosed L.talk closing link m × Same (world_of set.new d h) (with_over m (world_of set.old d h))) }
+    ensures part { OnErr result ((d : Dialling L) (h : Option (List ℕ)) →
+        (m : L) × IsClosed L.talk closing link m × Same (world_of set.new d h) (world_of set.old d h)) }
 {
     let mut link = link;
     let _ = link.close(alloc, closing.code, closing.reason.text());
@@ -92,8 +94,10 @@ fn refuse<L: Link + Drop>(
     set: &mut LinkSet<L>,
     closing: Closing,
 ) -> Result<(), NoMemory>
-    ensures { OnOk result ((d : Dialling L) (h : Option (List ℕ)) →
+    ensures refuses { OnOk result ((d : Dialling L) (h : Option (List ℕ)) →
         Refuses L.talk closing set.old.arrived (world_of set.old d h) (world_of set.new d h)) }
+    ensures part { OnErr result ((d : Dialling L) (h : Option (List ℕ)) →
+        RefusesPart L.talk closing set.old.arrived (world_of set.old d h) (world_of set.new d h)) }
 {
     match set.take_arrived() {
         Some(link) => close_link(alloc, set, link, closing),
@@ -103,8 +107,10 @@ fn refuse<L: Link + Drop>(
 
 /// The link of a name is lost.
 fn lose<L: Link + Drop>(set: &mut LinkSet<L>, name: LinkName) -> Result<(), NoMemory>
-    ensures { OnOk result ((d : Dialling L) (h : Option (List ℕ)) (l : L) → link_in set.old name ≡ Some l →
+    ensures lost { OnOk result ((d : Dialling L) (h : Option (List ℕ)) (l : L) → link_in set.old name ≡ Some l →
         Same (world_of set.new d h) (with_news name Lost (ends name l (world_of set.old d h)))) }
+    ensures part { OnErr result ((d : Dialling L) (h : Option (List ℕ)) (l : L) → link_in set.old name ≡ Some l →
+        IsOut name l (world_of set.old d h) (world_of set.new d h)) }
 {
     set.take_out(name)?;
     set.note(name, Change::Lost)
@@ -117,8 +123,10 @@ fn put<L: Link + Drop>(
     name: LinkName,
     octets: &[u8],
 ) -> Result<(), NoMemory>
-    ensures { OnOk result ((d : Dialling L) (h : Option (List ℕ)) →
+    ensures puts { OnOk result ((d : Dialling L) (h : Option (List ℕ)) →
         Puts L.talk name octets.now (link_in set.old name) (world_of set.old d h) (world_of set.new d h)) }
+    ensures part { OnErr result ((d : Dialling L) (h : Option (List ℕ)) →
+        PutsPart L.talk name octets.now (link_in set.old name) (world_of set.old d h) (world_of set.new d h)) }
 {
     match set.put(alloc, name, octets) {
         Ok(()) => Ok(()),
@@ -134,8 +142,10 @@ fn close<L: Link + Drop>(
     name: LinkName,
     closing: Closing,
 ) -> Result<(), NoMemory>
-    ensures { OnOk result ((d : Dialling L) (h : Option (List ℕ)) →
+    ensures closes { OnOk result ((d : Dialling L) (h : Option (List ℕ)) →
         Closes L.talk name closing (link_in set.old name) (world_of set.old d h) (world_of set.new d h)) }
+    ensures part { OnErr result ((d : Dialling L) (h : Option (List ℕ)) →
+        ClosesPart L.talk name closing (link_in set.old name) (world_of set.old d h) (world_of set.new d h)) }
 {
     set.forget(name);
     match set.replace(name, None) {
@@ -203,7 +213,8 @@ fn tell<K: Sink, L: Link + Drop>(
 ) -> Result<(), Halt>
     ensures tells { OnOk result ((d : Dialling L) →
         Tells L.talk note.now (world_of set.old d (K.held sink.old)) (world_of set.new d (K.held sink.new))) }
-    ensures part { OnErr result (PutsPrefix (K.held sink.old) (K.held sink.new) (note_line note.now)) }
+    ensures part { OnErr result ((d : Dialling L) →
+        WritesPart (note_line note.now) (world_of set.old d (K.held sink.old)) (world_of set.new d (K.held sink.new))) }
     ensures failed { RisesOnWriteFault result (K.faults sink.old) (K.faults sink.new) }
     ensures later { K.faults sink.old ≤ K.faults sink.new }
     ensures accepts { result ≢ Err HaltType.AcceptFault }
@@ -225,7 +236,7 @@ fn carry_out<K: Sink, L: Link + Drop, D: Dialer<L>>(
     ensures does { OnOk result (Does L.talk action.now
         (world_of set.old (dialling D.calls D.left D.came D.faults dialer.old) (K.held sink.old))
         (world_of set.new (dialling D.calls D.left D.came D.faults dialer.new) (K.held sink.new))) }
-    ensures part { OnErr result (DoesPart action.now
+    ensures part { OnErr result (DoesPart L.talk action.now
         (world_of set.old (dialling D.calls D.left D.came D.faults dialer.old) (K.held sink.old))
         (world_of set.new (dialling D.calls D.left D.came D.faults dialer.new) (K.held sink.new))) }
     ensures failed { RisesOnWriteFault result (K.faults sink.old) (K.faults sink.new) }

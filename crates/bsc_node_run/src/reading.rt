@@ -1,8 +1,8 @@
 //! Reading the script of a node.
-ghost use Rattle.std.specs.Prelude.{◌≡◌, ◌≢◌, ◌+◌, ◌<◌, ◌≤◌, ◌++◌, ◌∷◌, [], length, slice_index, map, MatchOption};
+ghost use Rattle.std.specs.Prelude.{◌≡◌, ◌≢◌, ◌+◌, ◌<◌, ◌≤◌, ◌++◌, ◌∷◌, [], length, map};
 ghost use Rattle.std.specs.Prelude.{true, false, Ok, Err, IfOk, OnOk, ℕ, List};
 ghost use Rattle.std.specs.List.{concat};
-ghost use Rattle.bsc_text.specs.Lines.{is_too_big, line_in, pieces_of};
+ghost use Rattle.bsc_text.specs.Lines.{pieces_of};
 ghost use Rattle.bsc_node_run.specs.declared.line.Line.{Line as LineType};
 ghost use Rattle.bsc_node_run.specs.declared.line.Line.TheVariants.{At, Ask};
 ghost use Rattle.bsc_node_run.specs.declared.line.LineFault.TheVariants.{Refused as IsRefused};
@@ -15,7 +15,7 @@ use crate::line::{Line, LineFault};
 use crate::saying::read_line;
 use crate::script::{Script, ScriptFault};
 use bsc_node::NodeEvent;
-use bsc_text::{MAX_INPUT_LEN, MAX_LINE_LEN};
+use bsc_text::{MAX_INPUT_LEN, is_too_big, lf_at, line_in};
 use std::alloc::Global;
 
 /// What stands behind some lines.
@@ -26,48 +26,6 @@ struct Reading {
     /// Whether `finish` came.
     ended: bool,
     lines: Vec<Due>,
-}
-
-/// The octets in front of the last one, where the last one is `last`.
-fn before_last(octets: &[u8], last: u8) -> Option<&[u8]>
-    ensures { MatchOption result
-        ((front : List ℕ) → octets.now ≢ front ++ last ∷ [])
-        (λ front. octets.now ≡ front.now ++ last ∷ []) }
-{
-    octets.strip_suffix(&[last])
-}
-
-/// The line that a piece holds: the piece without its LF and the one CR before it.
-fn line_in(piece: &[u8]) -> &[u8]
-    ensures { result.now ≡ line_in piece.now }
-{
-    match before_last(piece, b'\n') {
-        None => piece,
-        Some(front) => match before_last(front, b'\r') {
-            None => front,
-            Some(line) => line,
-        },
-    }
-}
-
-/// Whether a piece that stands after `before` octets is too big.
-fn is_too_big(before: u64, piece: &[u8]) -> bool
-    requires { before ≤ MAX_INPUT_LEN }
-    ensures { result ≡ is_too_big before piece.now }
-{
-    line_in(piece).len() > MAX_LINE_LEN || MAX_INPUT_LEN - before < piece.len() as u64
-}
-
-/// How many octets stand in front of the first LF; all of them, where there is none.
-fn lf_at(octets: &[u8]) -> usize
-    ensures within { result ≤ length octets.now }
-    ensures before { (k : ℕ) → k < result → slice_index octets.now k ≢ 10 }
-    ensures found { result < length octets.now → slice_index octets.now result ≡ 10 }
-{
-    octets
-        .iter()
-        .position(|c| *c == b'\n')
-        .unwrap_or(octets.len())
 }
 
 /// The first piece, which ends with an LF or is all that there is, and what comes behind it.

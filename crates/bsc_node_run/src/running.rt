@@ -4,10 +4,9 @@ ghost use Rattle.bsc_edge.specs.Told.{Stays};
 ghost use Rattle.bsc_node_run.specs.Halts.{RisesOnAcceptFault, RisesOnWriteFault};
 ghost use Rattle.bsc_node_run.specs.Drawing.{Draws, GoesDrawing, at_rest};
 ghost use Rattle.bsc_node_run.specs.Moments.{outside, run_moment};
-ghost use Rattle.bsc_node_run.specs.Resting.{HasRested, IsOverBy, longest_rest};
+ghost use Rattle.bsc_node_run.specs.Resting.{HasRested, rest_after, until_next};
 ghost use Rattle.bsc_node_run.specs.Running.{RunsTo};
 ghost use Rattle.bsc_node_run.specs.Stopping.{RunBreaks};
-ghost use Rattle.bsc_node_run.specs.Turning.{IsNotDue};
 ghost use Rattle.bsc_node_run.specs.Worlds.{admitting, dialling};
 
 use crate::bounds::LONGEST_REST_MS;
@@ -25,23 +24,33 @@ use bsc_edge::{Acceptor, Clock, Dialer, Link, Waiter};
 use bsc_outside::Sink;
 use std::alloc::Global;
 
-/// How long may be waited before the next turn, once so much time had passed at the last one: not at all where something is new
-/// of a link, and not past the time of the next line.
-fn rest_ms<L>(set: &LinkSet<L>, left: &[Due], passed: u64) -> u32
-    ensures short { result ≤ longest_rest }
-    ensures over { IsNotDue passed left.now → IsOverBy passed result left.now }
+/// How long it is until the time of the next line, once so much time has passed, and no longer than a wait may be.
+fn until_next(left: &[Due], passed: u64) -> u32
+    ensures { result ≡ until_next passed left.now }
 {
-    if !set.waiting.is_empty() {
-        return 0;
+    match left {
+        [due, ..] => {
+            let until = due.at.saturating_sub(passed);
+            if until < LONGEST_REST_MS as u64 {
+                until as u32
+            } else {
+                LONGEST_REST_MS
+            }
+        }
+        [] => LONGEST_REST_MS,
     }
-    let [due, ..] = left else {
-        return LONGEST_REST_MS;
-    };
-    let until = due.at.saturating_sub(passed);
-    if until < LONGEST_REST_MS as u64 {
-        until as u32
+}
+
+/// How long is waited before the next turn, once so much time had passed at the last one: not at all where something is new of a
+/// link, and else until the time of the next line.
+#[tactic(auto, using(crate::proofs::Resting::rest_told, crate::proofs::Resting::rest_untold))]
+fn rest_ms<L>(set: &LinkSet<L>, left: &[Due], passed: u64) -> u32
+    ensures { result ≡ rest_after passed left.now set.now.waiting.items }
+{
+    if set.waiting.is_empty() {
+        until_next(left, passed)
     } else {
-        LONGEST_REST_MS
+        0
     }
 }
 
@@ -79,10 +88,13 @@ pub fn run_core<
         (outside (dialling D.calls D.left D.came D.faults parts.new.dialer) (K.held sink.new) (admitting A.left A.came A.waits acceptor.new)
         (C.readings clock.new))) }
 
-    // Whatever ends it, there was one wait before each turn: of no time before the first; and then of 50 ms at most, and no longer
-    // than it was, at the turn before, until the next line of the script.
-    ensures rests { HasRested terms.entry.script.now (C.readings clock.old) (C.readings clock.new)
-        (V.waits parts.old.waiter) (V.waits parts.new.waiter) }
+    // Whatever ends it, there was one wait before each turn: of no time before the first, and before one to which something new of
+    // a link was left; and else of 50 ms, or of what was left, at the turn before, until the next line of the script, where that is
+    // less.
+    ensures rests { HasRested (GoesDrawing N.goes (Draws W.gives W.faults)) L.talk terms.entry.listens terms.entry.script.now
+        (run_moment (at_rest node.old parts.old.random) (dialling D.calls D.left D.came D.faults parts.old.dialer)
+        (K.held sink.old) (admitting A.left A.came A.waits acceptor.old) (C.readings clock.old))
+        (C.readings clock.new) (V.waits parts.old.waiter) (V.waits parts.new.waiter) }
     ensures write { RisesOnWriteFault result (K.faults sink.old) (K.faults sink.new) }
     ensures accept { RisesOnAcceptFault result (A.faults acceptor.old) (A.faults acceptor.new) }
     ensures writes_later { K.faults sink.old ≤ K.faults sink.new }

@@ -1,6 +1,6 @@
 //! One turn of a node.
 ghost use Rattle.std.specs.Prelude.{◌≡◌, ◌≢◌, ◌<◌, ◌≤◌, ◌^◌, ◌∷◌, ◌++◌, [], true, Err, IfSome, IfOk, OnErr, OnOk};
-ghost use Rattle.std.specs.Prelude.{List, ℕ, Option, Some};
+ghost use Rattle.std.specs.Prelude.{List, ℕ, None, Option, Some};
 ghost use Rattle.bsc_edge.specs.Told.{Grows, Stays};
 ghost use Rattle.bsc_node.specs.declared.node_event.NodeEvent.TheVariants.{Lost as LostEvent};
 ghost use Rattle.bsc_node_run.specs.Halts.{RisesOnAcceptFault, RisesOnWriteFault};
@@ -11,10 +11,10 @@ ghost use Rattle.bsc_node_run.specs.Drawing.{Draws, GoesDrawing, at_rest};
 ghost use Rattle.bsc_node_run.specs.Moments.{in_hands, moment};
 ghost use Rattle.bsc_node_run.specs.Receiving.{Received};
 ghost use Rattle.bsc_node_run.specs.Requests.{has_octets};
-ghost use Rattle.bsc_node_run.specs.Stopping.{AdmitStops, EachStop, HearStops, LinesStop, NewsStop, StartStops, TurnBreaks};
+ghost use Rattle.bsc_node_run.specs.Stopping.{AdmitStops, EachStop, HearStops, LinesStop, Misses, NewsStop, StartStops, TurnBreaks};
 ghost use Rattle.bsc_node_run.specs.Turning.{Admits, AreDue, GivesLines, GivesNews, HearsEach, IsNotDue, LinkHears};
 ghost use Rattle.bsc_node_run.specs.Turning.{Starts, TurnsTo, event_of, names, passed_by, slots_from};
-ghost use Rattle.bsc_node_run.specs.Worlds.{Dialling, Same, admitting, dialling, ends, link_in, world_of};
+ghost use Rattle.bsc_node_run.specs.Worlds.{Dialling, Same, admitting, dialling, ends, link_in, with_link, world_of};
 
 use crate::at::At;
 use crate::bounds::ACCEPT_WAIT_MS;
@@ -112,6 +112,8 @@ fn lose<L: Link + Drop>(set: &mut LinkSet<L>, name: LinkName) -> Result<Option<N
     ensures octets { IfOk result (λ e. IfSome e (λ event. has_octets event ≡ true)) }
     ensures ended { IfOk result (λ e. (e ≡ Some (LostEvent name)) × ((d : Dialling L) (h : Option (List ℕ)) (l : L) →
         link_in set.old name ≡ Some l → Same (world_of set.new d h) (ends name l (world_of set.old d h)))) }
+    ensures dropped { OnErr result ((d : Dialling L) (h : Option (List ℕ)) →
+        Same (world_of set.new d h) (with_link name None (world_of set.old d h))) }
 {
     set.take_out(name)?;
     Ok(Some(NodeEvent::Lost(name)))
@@ -126,6 +128,8 @@ fn receive<L: Link + Drop>(
     ensures octets { IfOk result (λ e. IfSome e (λ event. has_octets event ≡ true)) }
     ensures received { IfOk result (λ e. (d : Dialling L) (h : Option (List ℕ)) →
         Received L.talk name (link_in set.old name) e (world_of set.old d h) (world_of set.new d h)) }
+    ensures missed { OnErr result ((d : Dialling L) (h : Option (List ℕ)) →
+        Misses L.talk name (link_in set.old name) (world_of set.old d h) (world_of set.new d h)) }
 {
     match set.receive(alloc, name) {
         Some(Ok(Incoming::Message(octets))) => Ok(Some(NodeEvent::Came(name, octets))),

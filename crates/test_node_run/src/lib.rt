@@ -2,7 +2,8 @@
 //! words in memory.
 //!
 //! They stand in a crate of their own, since a crate's own tests have all of its functions proved a second time. `rows` has
-//! the runs, `row` says what one is, and `playing` plays it. `watched` notes what a run does outside.
+//! the runs, `row` says what one is, and `playing` plays it. `watched` notes what a run does outside. `words` draws random
+//! words from a source of known octets.
 #![tactic(auto)]
 
 #[cfg(test)]
@@ -17,3 +18,5 @@ mod row;
 mod rows;
 #[cfg(test)]
 mod watched;
+#[cfg(test)]
+mod words;

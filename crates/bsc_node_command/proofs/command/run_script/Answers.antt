@@ -1,4 +1,5 @@
 use Rattle.std.proofs.Common.{List, ℕ, Option, inl, inr, refl, subst, sym}
+use Rattle.bsc_edge.specs.Asked.{GaveFile}
 use Rattle.bsc_node_run.specs.Drawing.{Draws}
 use Rattle.bsc_node_run.specs.Worlds.{admitting, dialling}
 use Rattle.bsc_node_command.specs.Comes.{Comes, NodeWorld}
@@ -11,7 +12,7 @@ returns-in-Ok-clause-runs g c =
     let C = g.C.Clock in
     let V = g.V.Waiter in
     let K = g.K.Sink in
-    let held = subst (λ (o : List ℕ). g.F.Files.holds c.args.files.now c.args.path.now o) (sym c.as_slice.ensures) c.in-Ok.ensures.given.0 in
+    let held = subst (λ (o : List ℕ). GaveFile g.F.Files.holds g.F.Files.loads c.args.files.now c.load.new.files c.args.path.now o) (sym c.as_slice.ensures) c.in-Ok.ensures.given.0 in
     let before : Option (List ℕ) → NodeWorld g.row.L.Denot g.row.W.Denot = λ (t : Option (List ℕ)). record { dialled = dialling D.calls D.left D.came D.faults c.args.parts.now.dialer; door = admitting A.left A.came A.waits c.args.acceptor.now; port = A.bound c.args.acceptor.now; faults = A.faults c.args.acceptor.now; readings = C.readings c.args.clock.now; waited = V.waits c.args.parts.now.waiter; random = c.args.parts.now.random; written = t } in
     let after : NodeWorld g.row.L.Denot g.row.W.Denot = record { dialled = dialling D.calls D.left D.came D.faults c.run_node.new.parts.dialer; door = admitting A.left A.came A.waits c.run_node.new.acceptor; port = A.bound c.run_node.new.acceptor; faults = A.faults c.run_node.new.acceptor; readings = C.readings c.run_node.new.clock; waited = V.waits c.run_node.new.parts.waiter; random = c.run_node.new.parts.random; written = K.held c.run_node.new.sink } in
     inr (

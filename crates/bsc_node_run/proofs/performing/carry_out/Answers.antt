@@ -15,4 +15,13 @@ returns-in_err-dial-in-Dial-clause-part g c =
     let K = g.K.Sink in
     let w = world_of c.args.set.now (dialling D.calls D.left D.came D.faults c.args.dialer.now) (K.held c.args.sink.now) in
     let v = world_of c.dial.new.set (dialling D.calls D.left D.came D.faults c.dial.new.dialer) (K.held c.args.sink.now) in
-    at_err {P = DoesPart c.args.action.now w v} _ (rw c.in-Dial.is (rw c.as_slice.ensures at (c.in_err-dial-in-Dial.ensures.part (K.held c.args.sink.now))))
+    at_err {P = DoesPart g.L.Link.talk c.args.action.now w v} _ (rw c.in-Dial.is (rw c.as_slice.ensures at (c.in_err-dial-in-Dial.ensures.part (K.held c.args.sink.now))))
+
+pub returns-in_err-tell-in-Tell-clause-part : goal.returns-in_err-tell-in-Tell-clause-part
+returns-in_err-tell-in-Tell-clause-part g c =
+    let D = g.D.Dialer in
+    let K = g.K.Sink in
+    let d = dialling D.calls D.left D.came D.faults c.args.dialer.now in
+    let w = world_of c.args.set.now d (K.held c.args.sink.now) in
+    let v = world_of c.tell.new.set d (K.held c.tell.new.sink) in
+    at_err {P = DoesPart g.L.Link.talk c.args.action.now w v} _ (rw c.in-Tell.is (c.in_err-tell-in-Tell.ensures.part d))

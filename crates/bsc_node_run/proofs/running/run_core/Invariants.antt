@@ -1,12 +1,12 @@
 use Rattle.std.proofs.Common.{◌≡◌, ◌≤◌, ℕ, false, List, None, ◌++◌, length}
 use Rattle.bsc_edge.specs.Told.{Grows, Stays}
 use Rattle.bsc_node_run.specs.Drawing.{Draws, GoesDrawing, at_rest}
-use Rattle.bsc_node_run.specs.Resting.{MayRest, RestsFrom}
+use Rattle.bsc_node_run.specs.Resting.{rest_before}
 use Rattle.bsc_node_run.specs.Running.{DontFall, Turns}
 use Rattle.bsc_node_run.specs.Stopping.{TurnsStop}
 use Rattle.bsc_node_run.specs.Worlds.{Admitting, World, admitting, dialling, world_of}
 use Rattle.bsc_node_run.specs.Moments.{in_hands, moment}
-use Rattle.bsc_node_run.proofs.Resting.{AreLeft}
+use Rattle.bsc_node_run.proofs.Resting.{GoOn}
 use Rattle.bsc_node_run.proofs.running.run_core.Given as goal
 
 -- Turns were made at these times, each behind its wait. Turns and waits from here on go on with them, as do readings that don't
@@ -27,11 +27,9 @@ invariant-loop-made g l = record {
   waits : List ℕ;
   asked : Grows (g.V.Waiter.waits l.initial.parts.waiter) (g.V.Waiter.waits l.parts.waiter) waits;
   newest : ℕ;
-  read : newest ≤ g.C.Clock.newest l.clock;
-  lines : AreLeft l.initial.left l.left l.start newest;
-  rest : MayRest l.initial.left l.start newest l.wait_ms;
-  rests : (more others : List ℕ) → RestsFrom l.initial.left l.start newest more others
-      → RestsFrom l.initial.left None 0 (times ++ more) (waits ++ others);
+  rest : l.wait_ms ≡ rest_before l.start newest l.left l.set.waiting.items;
+  rests : GoOn (GoesDrawing g.N.Core.goes (Draws g.W.Words.gives g.W.Words.faults)) g.L.Link.talk l.fn.terms.listens l.initial.left (moment (at_rest l.initial.node l.initial.parts.random) (world_of l.initial.set (dialling g.D.Dialer.calls g.D.Dialer.left g.D.Dialer.came g.D.Dialer.faults l.initial.parts.dialer) (g.K.Sink.held l.initial.sink)) (admitting g.A.Acceptor.left g.A.Acceptor.came g.A.Acceptor.waits l.initial.acceptor))
+      times waits l.start newest l.left (moment (at_rest l.node l.parts.random) (world_of l.set (dialling g.D.Dialer.calls g.D.Dialer.left g.D.Dialer.came g.D.Dialer.faults l.parts.dialer) (g.K.Sink.held l.sink)) (admitting g.A.Acceptor.left g.A.Acceptor.came g.A.Acceptor.waits l.acceptor));
   writes_later : g.K.Sink.faults l.initial.sink ≤ g.K.Sink.faults l.sink;
   links_later : g.A.Acceptor.faults l.initial.acceptor ≤ g.A.Acceptor.faults l.acceptor;
   bound : Stays (g.A.Acceptor.bound l.initial.acceptor) (g.A.Acceptor.bound l.acceptor);

@@ -1,4 +1,4 @@
-use Rattle.std.proofs.Common.{inl, inr, refl, sym, ◌∙◌}
+use Rattle.std.proofs.Common.{inl, inr, sym, ◌∙◌}
 use Rattle.bsc_node_run.specs.Drawing.{Draws, GoesDrawing, at_rest}
 use Rattle.bsc_node_run.specs.Stopping.{HearStops}
 use Rattle.bsc_node_run.specs.Worlds.{dialling, world_of}
@@ -30,7 +30,7 @@ returns-in_err-event-clause-stops g c =
     let d = dialling g.D.Dialer.calls g.D.Dialer.left g.D.Dialer.came g.D.Dialer.faults c.args.dialer.now in
     let h = g.K.Sink.held c.args.sink.now in
     at_err {P = HearStops (GoesDrawing g.N.Core.goes (Draws g.W.Words.gives g.W.Words.faults)) g.L.Link.talk c.args.at.time c.args.name (at_rest c.args.node.now c.args.random.now) (world_of c.args.set.now d h) (world_of c.receive.new.set d h)} _
-    (sym (c.is_open.ensures d h) ∙ c.if-not-is_open.false, inl (refl, refl))
+    (sym (c.is_open.ensures d h) ∙ c.if-not-is_open.false, inl (c.in_err-event.ensures.missed d h))
 
 pub returns-in-Some-clause-stops : goal.returns-in-Some-clause-stops
 returns-in-Some-clause-stops g c =

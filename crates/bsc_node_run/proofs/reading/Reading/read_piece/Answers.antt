@@ -9,7 +9,7 @@ pub returns-clause-taken : goal.returns-clause-taken
 returns-clause-taken c = on_ok c.take_in.result c.take_in.ensures.taken (λ taken pieces count k.
     let piece = c.args.piece.now in
     let l = c.in_ok-line.line in
-    let says : line_of (line_in piece) ≡ Some l = ap line_of (sym c.line_in.ensures) ∙ c.in_ok-line.ensures.read in
+    let says : line_of (line_in piece) ≡ Some l = ap line_of (sym c.line_in.ensures.line) ∙ c.in_ok-line.ensures.read in
     let t = taken (lines_in pieces) k in (
       fits_piece pieces piece c.args.before l count (sym c.is_too_big.ensures ∙ c.if-is_too_big.false) says t.0,
       kept_piece c.take_in.new.self.at c.take_in.new.self.ended (map wish_of c.take_in.new.self.lines.items) pieces piece l says t.1,
