@@ -1,6 +1,7 @@
 //! What the program does.
-ghost use Rattle.std.specs.Prelude.{◌≡◌, ◌≢◌, ◌≤◌, ◌⊎◌, ◌++◌, ℕ, List, Option, None, Some, Ok, map};
+ghost use Rattle.std.specs.Prelude.{◌≡◌, ◌≢◌, ◌≤◌, ◌⊎◌, ◌++◌, ◌∷◌, [], ℕ, List, Option, None, Some, Ok, map};
 ghost use Rattle.clap.specs.Words.{Text};
+ghost use Rattle.bsc_edge.specs.Asked.{GaveFile, ReadsFirstOf};
 ghost use Rattle.bsc_outside.specs.Faults.{HasRisen, PutsPrefix};
 ghost use Rattle.bsc_player.specs.Faults.{RisesIf};
 ghost use Rattle.bsc_player.specs.LastLines.{EndsWith, RanOut, words_line};
@@ -86,23 +87,26 @@ fn run_asked<
     requires workers { (n : ℕ) → seen asked ≡ load n → (1 ≤ n) × (n ≤ WORKERS) }
     ensures hub { (path : Text) (sessions : Option ℕ) (journal : Option Text) (made : _) →
         seen asked.entry ≡ hub path sessions journal → outside.new.place.kept.hub ≡ Some made →
-        (v : HubSettings) × (policy : Option Policy) × IsSettled (F.holds outside.old.files path) v policy
-        × HubRuns (telling (Worked L.talk L.faults L.notices C.readings N.held N.faults) J.begins N.held N.faults)
+        (v : HubSettings) × (policy : Option Policy) × IsSettled (GaveFile F.holds F.loads outside.old.files outside.new.files path) v policy
+        × HubRuns (telling (Worked L.talk L.faults L.notices C.readings N.held N.faults) J.begins L.talk N.held N.faults)
         (record { settings = v; policy = policy; sessions = sessions; prefix = journal })
         outside.new.place
-        (world_by (door_by A.left A.came A.waits A.bound A.faults) (stock_by P.jobs P.ends P.out P.faults) J.faults outside.old.parts (K.held outside.old.sink))
-        (world_by (door_by A.left A.came A.waits A.bound A.faults) (stock_by P.jobs P.ends P.out P.faults) J.faults outside.new.parts (K.held outside.new.sink))
+        (world_by (door_by A.left A.came A.waits A.quiets A.bound A.faults) (stock_by P.jobs P.ends P.out P.faults) J.calls J.faults outside.old.parts (K.held outside.old.sink))
+        (world_by (door_by A.left A.came A.waits A.quiets A.bound A.faults) (stock_by P.jobs P.ends P.out P.faults) J.calls J.faults outside.new.parts (K.held outside.new.sink))
         result }
     ensures no_hub { (path : Text) (sessions : Option ℕ) (journal : Option Text) →
         seen asked.entry ≡ hub path sessions journal → outside.new.place.kept.hub ≡ None →
-        Unsettled (F.holds outside.old.files path) (F.faults outside.old.files) (F.faults outside.new.files) result
+        Unsettled (GaveFile F.holds F.loads outside.old.files outside.new.files path) (F.faults outside.old.files) (F.faults outside.new.files) result
         (K.held outside.old.sink) (K.held outside.new.sink) }
     ensures no_hub_untouched { (path : Text) (sessions : Option ℕ) (journal : Option Text) →
         seen asked.entry ≡ hub path sessions journal → outside.new.place.kept.hub ≡ None →
         (outside.new.place ≡ outside.old.place) × (outside.new.parts ≡ outside.old.parts) }
     ensures node { (path script : Text) → seen asked.entry ≡ node path script →
         RunsFiles L.talk (Draws W.gives W.faults)
-        (record { settings = F.holds outside.old.files path; script = F.holds outside.old.files script })
+        (record {
+          settings = GaveFile F.holds F.loads outside.old.files outside.new.files path;
+          script = GaveFile F.holds F.loads outside.old.files outside.new.files script;
+        })
         (record {
           unread = F.faults outside.old.files;
           beside = node_world (dialling D.calls D.left D.came D.faults) V.waits outside.old.node
@@ -114,9 +118,13 @@ fn run_asked<
               (acceptor_world A.left A.came A.waits A.bound A.faults outside.new.parts.acceptor) (C.readings outside.new.parts.clock) (K.held outside.new.sink);
         }) result }
     ensures finished { (path script : Text) → seen asked.entry ≡ node path script → result ≡ 0 →
-        (o : List ℕ) × F.holds outside.old.files script o
+        (o : List ℕ) × GaveFile F.holds F.loads outside.old.files outside.new.files script o
         × (lines : List Due) × (script_of o ≡ Ok (map wish_of lines))
         × FinishCame lines (C.readings outside.old.parts.clock) (C.readings outside.new.parts.clock) }
+    ensures hub_read { (path : Text) (sessions : Option ℕ) (journal : Option Text) → seen asked.entry ≡ hub path sessions journal →
+        ReadsFirstOf (F.loads outside.old.files) (F.loads outside.new.files) (path ∷ []) }
+    ensures node_read { (path script : Text) → seen asked.entry ≡ node path script →
+        ReadsFirstOf (F.loads outside.old.files) (F.loads outside.new.files) (path ∷ script ∷ []) }
     ensures load { (n : ℕ) (made : _) → seen asked.entry ≡ load n → outside.new.place.kept.hub ≡ Some made →
         RunsLoad n outside.new.place.kept made result (K.held outside.old.sink) (K.held outside.new.sink) }
     ensures no_load { (n : ℕ) → seen asked.entry ≡ load n → outside.new.place.kept.hub ≡ None →
@@ -252,16 +260,16 @@ pub fn run<
     // of its own journal, with journals under the prefix of the words.
     ensures hub { (path : Text) (sessions : Option ℕ) (journal : Option Text) (made : _) →
         asked_in read.now ≡ Some (hub path sessions journal) → outside.new.place.kept.hub ≡ Some made →
-        (v : HubSettings) × (policy : Option Policy) × IsSettled (F.holds outside.old.files path) v policy
-        × HubRuns (telling (Worked L.talk L.faults L.notices C.readings N.held N.faults) J.begins N.held N.faults)
+        (v : HubSettings) × (policy : Option Policy) × IsSettled (GaveFile F.holds F.loads outside.old.files outside.new.files path) v policy
+        × HubRuns (telling (Worked L.talk L.faults L.notices C.readings N.held N.faults) J.begins L.talk N.held N.faults)
         (record { settings = v; policy = policy; sessions = sessions; prefix = journal })
         outside.new.place
-        (world_by (door_by A.left A.came A.waits A.bound A.faults) (stock_by P.jobs P.ends P.out P.faults) J.faults outside.old.parts (K.held outside.old.sink))
-        (world_by (door_by A.left A.came A.waits A.bound A.faults) (stock_by P.jobs P.ends P.out P.faults) J.faults outside.new.parts (K.held outside.new.sink))
+        (world_by (door_by A.left A.came A.waits A.quiets A.bound A.faults) (stock_by P.jobs P.ends P.out P.faults) J.calls J.faults outside.old.parts (K.held outside.old.sink))
+        (world_by (door_by A.left A.came A.waits A.quiets A.bound A.faults) (stock_by P.jobs P.ends P.out P.faults) J.calls J.faults outside.new.parts (K.held outside.new.sink))
         result }
     ensures no_hub { (path : Text) (sessions : Option ℕ) (journal : Option Text) →
         asked_in read.now ≡ Some (hub path sessions journal) → outside.new.place.kept.hub ≡ None →
-        Unsettled (F.holds outside.old.files path) (F.faults outside.old.files) (F.faults outside.new.files) result
+        Unsettled (GaveFile F.holds F.loads outside.old.files outside.new.files path) (F.faults outside.old.files) (F.faults outside.new.files) result
         (K.held outside.old.sink) (K.held outside.new.sink) }
     ensures no_hub_untouched { (path : Text) (sessions : Option ℕ) (journal : Option Text) →
         asked_in read.now ≡ Some (hub path sessions journal) → outside.new.place.kept.hub ≡ None →
@@ -270,7 +278,10 @@ pub fn run<
     // Of the words of a node: what became of it, by its settings and its script as they were in their files.
     ensures node { (path script : Text) → asked_in read.now ≡ Some (node path script) →
         RunsFiles L.talk (Draws W.gives W.faults)
-        (record { settings = F.holds outside.old.files path; script = F.holds outside.old.files script })
+        (record {
+          settings = GaveFile F.holds F.loads outside.old.files outside.new.files path;
+          script = GaveFile F.holds F.loads outside.old.files outside.new.files script;
+        })
         (record {
           unread = F.faults outside.old.files;
           beside = node_world (dialling D.calls D.left D.came D.faults) V.waits outside.old.node
@@ -285,9 +296,15 @@ pub fn run<
     // Status 0 comes of the words of a node only once the time of its script's `finish` has passed, from the first reading of
     // the clock to the last.
     ensures finished { (path script : Text) → asked_in read.now ≡ Some (node path script) → result ≡ 0 →
-        (o : List ℕ) × F.holds outside.old.files script o
+        (o : List ℕ) × GaveFile F.holds F.loads outside.old.files outside.new.files script o
         × (lines : List Due) × (script_of o ≡ Ok (map wish_of lines))
         × FinishCame lines (C.readings outside.old.parts.clock) (C.readings outside.new.parts.clock) }
+
+    // The files that these words name were read, each once and in their order, up to the first that wasn't good, and no other.
+    ensures hub_read { (path : Text) (sessions : Option ℕ) (journal : Option Text) → asked_in read.now ≡ Some (hub path sessions journal) →
+        ReadsFirstOf (F.loads outside.old.files) (F.loads outside.new.files) (path ∷ []) }
+    ensures node_read { (path script : Text) → asked_in read.now ≡ Some (node path script) →
+        ReadsFirstOf (F.loads outside.old.files) (F.loads outside.new.files) (path ∷ script ∷ []) }
 
     // Of the words of a workload: once its hub is made, this is what became of it; else memory ran out.
     ensures load { (n : ℕ) (made : _) → asked_in read.now ≡ Some (load n) → outside.new.place.kept.hub ≡ Some made →

@@ -1,2 +1,4 @@
 pub mod Common
+pub mod Reading
 mod Removing
+mod WorkedReads

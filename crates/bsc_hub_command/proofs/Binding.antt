@@ -9,7 +9,7 @@ use Rattle.bsc_edge.specs.Told.{Stays, ToldIs}
 use Rattle.bsc_edge.proofs.Common.{grows_from}
 use Rattle.bsc_serve.specs.declared.end.ServeEnd.{ServeEnd}
 use Rattle.bsc_serve.specs.declared.terms.ServeTerms.{ServeTerms}
-use Rattle.bsc_serve.specs.Serving.{Loses, Serving}
+use Rattle.bsc_serve.specs.Serving.{Loses, RoseBy, Serving}
 use Rattle.bsc_serve.specs.Terms.{all_terms}
 use Rattle.bsc_serve.specs.Worlds.{ServeWorld, served_world}
 use Rattle.bsc_hub_command.specs.Served.{Bound, HasFailed, HubCourse, HubTelling, HubTerms, HubWorld, NotBound, SaysEnd, Titling, Untitled, terms_by, terms_of, with_pass}
@@ -26,17 +26,21 @@ loses_from l None (Some n) xs s t = absurd t
 loses_from None (Some m) (Some n) xs s t = absurd s
 loses_from (Some l) (Some m) (Some n) xs s t = sym s ∙ t
 
+rose_from : (n a b c : ℕ) → a ≤ b → RoseBy n b c → RoseBy n a c
+rose_from n a b c later (inl x) = inl (omega (arith, later, x))
+rose_from n a b c later (inr x) = inr x
+
 module _ {L C N : Type 0} (tells : HubTelling L C N) where
   pub bound_so : (asked : HubTerms) (k : HubCourse) (titled held' : Option (List ℕ)) (before after : HubWorld L C N) (links came : Option (List L))
-      (waits : Option (List ℕ)) (told : Option (Option ℕ)) (s : ℕ) (end : ServeEnd) (terms : ServeTerms) (port : ℕ)
+      (waits : Option (List ℕ)) (quiets : ℕ) (told : Option (Option ℕ)) (s : ℕ) (end : ServeEnd) (terms : ServeTerms) (port : ℕ)
       → terms ≡ terms_by asked.settings asked.sessions → port ≡ asked.settings.port → ToldIs told (Some port) → Stays told after.port
-      → Stays before.links links → Stays before.came came → Stays before.waits waits
-      → Serving tells.works tells.begins (all_terms terms asked.prefix asked.policy) (served_world k.hub titled (record (with_pass k.first before) { links = links; came = came; waits = waits })) (served_world k.hub held' (with_pass k.last after)) end
+      → Stays before.links links → Stays before.came came → Stays before.waits waits → before.quiets ≤ quiets
+      → Serving tells.works tells.begins tells.talk (all_terms terms asked.prefix asked.policy) (served_world k.hub titled (record (with_pass k.first before) { links = links; came = came; waits = waits; quiets = quiets })) (served_world k.hub held' (with_pass k.last after)) end
       → SaysEnd end s before.written after.written → Bound tells k asked titled held' before after s
-  bound_so asked k titled held' before after links came waits told s end terms port same same_port bound stays left arrived asks serving says =
-      let first : ServeWorld L C N = record (with_pass k.first before) { links = links; came = came; waits = waits } in
-      let b : Serving tells.works tells.begins (terms_of asked) (served_world k.hub titled first) (served_world k.hub held' (with_pass k.last after)) end =
-      subst (λ (t : ServeTerms). Serving tells.works tells.begins (all_terms t asked.prefix asked.policy) (served_world k.hub titled first) (served_world k.hub held' (with_pass k.last after)) end) same serving in
+  bound_so asked k titled held' before after links came waits quiets told s end terms port same same_port bound stays left arrived asks later serving says =
+      let first : ServeWorld L C N = record (with_pass k.first before) { links = links; came = came; waits = waits; quiets = quiets } in
+      let b : Serving tells.works tells.begins tells.talk (terms_of asked) (served_world k.hub titled first) (served_world k.hub held' (with_pass k.last after)) end =
+      subst (λ (t : ServeTerms). Serving tells.works tells.begins tells.talk (all_terms t asked.prefix asked.policy) (served_world k.hub titled first) (served_world k.hub held' (with_pass k.last after)) end) same serving in
       record {
         end = end;
         bound = tells_still told after.port (Some asked.settings.port) (subst (λ (n : ℕ). ToldIs told (Some n)) same_port bound) stays;
@@ -49,12 +53,17 @@ module _ {L C N : Type 0} (tells : HubTelling L C N) where
           late = b.late;
           lost = b.lost;
           cut_last = b.cut_last;
+          cut_so = b.cut_so;
           hub = b.hub;
           left = loses_from before.links links after.links _ left b.left;
           came = grows_from before.came came after.came _ arrived b.came;
           within = b.within;
           asks = b.asks;
           asked = grows_from before.waits waits after.waits _ asks b.asked;
+          idle = b.idle;
+          quiet = rose_from b.idle before.quiets quiets after.quiets later b.quiet;
+          answered = b.answered;
+          begun = b.begun;
           jobs = b.jobs;
           fates = b.fates;
           returned = b.returned;
@@ -121,6 +130,7 @@ module _ {L C N : Type 0} (tells : HubTelling L C N) (k : HubCourse) (asked : Hu
       links = u.untouched.links;
       came = u.untouched.came;
       waits = u.untouched.waits;
+      quiets = u.untouched.quiets;
       port = u.untouched.port;
       faults = u.untouched.faults;
       jobs = u.untouched.jobs;
@@ -128,6 +138,7 @@ module _ {L C N : Type 0} (tells : HubTelling L C N) (k : HubCourse) (asked : Hu
       out = u.untouched.out;
       unstarted = u.untouched.unstarted;
     };
+    unasked = u.unasked;
     stops = u.stops;
     says = u.says;
   }
@@ -142,6 +153,7 @@ module _ {L C N : Type 0} (tells : HubTelling L C N) (k : HubCourse) (asked : Hu
     given_back = b.given_back;
     out = b.out;
     unstarted = b.unstarted;
+    begun = b.begun;
     failed = b.failed;
     says = b.says;
   }

@@ -1,5 +1,5 @@
 -- What serving a hub by its settings comes to.
-use Rattle.std.specs.Prelude.{◌≡◌, ◌≢◌, ℕ, ◌⊎◌, List, [], Option, Some, None, Result, option_map}
+use Rattle.std.specs.Prelude.{◌≡◌, ◌≢◌, ℕ, ◌⊎◌, true, false, List, [], ◌∷◌, Option, Some, None, Result, option_map}
 use Rattle.std.specs.declared.alloc.Global.{Global}
 use Rattle.std.specs.declared.sync.Arc.{Arc}
 use Rattle.std.specs.Arc.{arc_value}
@@ -14,7 +14,9 @@ use Rattle.bsc_turn.specs.Passes.{drawn_list, ended_callers, number_of, own_list
 use Rattle.bsc_hub.specs.declared.hub.Hub.{Hub}
 use Rattle.bsc_hub.specs.Calls.{stop_made}
 use Rattle.bsc_hub.specs.Passing.{IsCaller, Passed, about_of}
-use Rattle.bsc_edge.specs.Told.{Stays, ToldIs}
+use Rattle.bsc_edge.specs.declared.begun.Begun.{Begun as BegunCall}
+use Rattle.bsc_edge.specs.declared.said.Said.{Said}
+use Rattle.bsc_edge.specs.Told.{Grows, Stays, ToldIs}
 use Rattle.bsc_player.specs.LastLines.{EndsWith, RanOut, SaysOrRunsOut}
 use Rattle.bsc_session.specs.declared.job.SessionJob.{SessionJob}
 use Rattle.bsc_session.specs.declared.limits.SessionLimits.{SessionLimits}
@@ -26,10 +28,11 @@ use Rattle.bsc_serve.specs.declared.end.ServeEnd.{ServeEnd}
 use Rattle.bsc_serve.specs.declared.end.ServeEnd.TheVariants.{Done, StoppedBefore, AcceptFault, JournalFault, NoMemory}
 use Rattle.bsc_serve.specs.declared.parts.ServingParts.{ServingParts}
 use Rattle.bsc_serve.specs.declared.terms.ServeTerms.{ServeTerms}
+use Rattle.bsc_serve.specs.Events.{begun_call}
 use Rattle.bsc_serve.specs.Serving.{Serving, StopAnswers}
 use Rattle.bsc_serve.specs.Terms.{Terms, all_terms}
 use Rattle.bsc_serve.specs.Worlds.{ServeWorld, Stock, served_world}
-use Rattle.bsc_journal.specs.Saying.{IsHubLine}
+use Rattle.bsc_journal.specs.Saying.{IsHubLine, IsIdentity}
 use Rattle.bsc_hub_command.specs.declared.asked.HubAsked.{HubAsked}
 use Rattle.bsc_hub_command.specs.declared.place.HubPlace.{HubPlace}
 use Rattle.bsc_hub_command.specs.HubLines.{hub_line, hub_text}
@@ -52,19 +55,22 @@ abbrev pub terms_by : HubSettings → Option ℕ → ServeTerms
 terms_by v sessions = record { limits = session_limits v; turns = v.turns; sessions = sessions }
 
 -- What there is outside the command at a moment, each as far as it is told: the links that the acceptor has left, those that
--- came so far, the waits that it was asked for, the port that it is bound to, and its count of faults; the jobs that the spawner
--- has taken, what is left of those that it gave back, those of them that are out, and its count of jobs that weren't started; the
--- count of journals that couldn't be begun; and what was written.
+-- came so far, the waits that it was asked for, its count of those in which none came, the port that it is bound to, and its count
+-- of faults; the jobs that the spawner has taken, what is left of those that it gave back, those of them that are out, and its
+-- count of jobs that weren't started; the calls that began a journal, and the count of journals that couldn't be begun; and what
+-- was written.
 pub record HubWorld (L C N : Type 0) : Type 0 where
   pub links : Option (List L)
   pub came : Option (List L)
   pub waits : Option (List ℕ)
+  pub quiets : ℕ
   pub port : Option (Option ℕ)
   pub faults : ℕ
   pub jobs : Option (List (SessionJob L C N))
   pub given_back : Option (List (SessionEnd L C N))
   pub out : List (SessionJob L C N)
   pub unstarted : ℕ
+  pub begun : Option (List BegunCall)
   pub unbegun : ℕ
   pub written : Option (List ℕ)
 
@@ -76,6 +82,8 @@ pub record Door (L : Type 0) : Type 0 where
   pub came : Option (List L)
   -- the waits that it was asked for
   pub waits : Option (List ℕ)
+  -- its count of those in which none came
+  pub quiets : ℕ
   -- the port that it is bound to
   pub port : Option (Option ℕ)
   -- its count of faults
@@ -83,8 +91,8 @@ pub record Door (L : Type 0) : Type 0 where
 
 module _ {A L : Type 0} where
   -- The same of an acceptor, by what tells it.
-  abbrev pub door_by : (A → Option (List L)) → (A → Option (List L)) → (A → Option (List ℕ)) → (A → Option (Option ℕ)) → (A → ℕ) → A → Door L
-  door_by links came waits port faults a = record { links = links a; came = came a; waits = waits a; port = port a; faults = faults a }
+  abbrev pub door_by : (A → Option (List L)) → (A → Option (List L)) → (A → Option (List ℕ)) → (A → ℕ) → (A → Option (Option ℕ)) → (A → ℕ) → A → Door L
+  door_by links came waits quiets port faults a = record { links = links a; came = came a; waits = waits a; quiets = quiets a; port = port a; faults = faults a }
 
 module _ {P L C N : Type 0} where
   -- What is seen of a spawner, by what tells it.
@@ -93,36 +101,40 @@ module _ {P L C N : Type 0} where
 
 module _ {A C P J L N : Type 0} where
   -- The same of the parts that a hub is served by, as these tell it, and of what was written.
-  abbrev pub world_by : (A → Door L) → (P → Stock L C N) → (J → ℕ) → ServingParts A C P J → Option (List ℕ) → HubWorld L C N
-  world_by door stock unbegun parts written = record {
+  abbrev pub world_by : (A → Door L) → (P → Stock L C N) → (J → Option (List BegunCall)) → (J → ℕ) → ServingParts A C P J → Option (List ℕ) → HubWorld L C N
+  world_by door stock begun unbegun parts written = record {
     links = (door parts.acceptor).links;
     came = (door parts.acceptor).came;
     waits = (door parts.acceptor).waits;
+    quiets = (door parts.acceptor).quiets;
     port = (door parts.acceptor).port;
     faults = (door parts.acceptor).faults;
     jobs = (stock parts.spawner).jobs;
     given_back = (stock parts.spawner).given_back;
     out = (stock parts.spawner).out;
     unstarted = (stock parts.spawner).unstarted;
+    begun = begun parts.journals;
     unbegun = unbegun parts.journals;
     written = written;
   }
 
--- What the jobs of sessions and the journals tell of themselves.
+-- What the jobs of sessions, the journals and the links tell of themselves.
 pub record HubTelling (L C N : Type 0) : Type 1 where
   -- what may be left of a job
   pub works : SessionJob L C N → SessionEnd L C N → Type 0
   -- whether a sink is the journal of a prefix and of a pass's number
   pub begins : Option (List ℕ) → ℕ → N → Type 0
+  -- what was said on a link, as far as it tells it
+  pub talk : L → Option (List Said)
   -- the octets that a journal holds, as far as it tells them
   pub held : N → Option (List ℕ)
   -- a journal's count of faults
   pub unput : N → ℕ
 
 module _ {L C N : Type 0} where
-  abbrev pub telling : (SessionJob L C N → SessionEnd L C N → Type 0) → (Option (List ℕ) → ℕ → N → Type 0) → (N → Option (List ℕ)) → (N → ℕ)
+  abbrev pub telling : (SessionJob L C N → SessionEnd L C N → Type 0) → (Option (List ℕ) → ℕ → N → Type 0) → (L → Option (List Said)) → (N → Option (List ℕ)) → (N → ℕ)
       → HubTelling L C N
-  telling works begins held unput = record { works = works; begins = begins; held = held; unput = unput }
+  telling works begins talk held unput = record { works = works; begins = begins; talk = talk; held = held; unput = unput }
 
 -- a sink is there that has failed
 abbrev pub HasFailed : {N : Type 0} → (N → ℕ) → Option N → Type 0
@@ -168,6 +180,8 @@ module _ {L C N : Type 0} where
     links = w.links;
     came = w.came;
     waits = w.waits;
+    quiets = w.quiets;
+    begun = w.begun;
     jobs = w.jobs;
     given_back = w.given_back;
     out = w.out;
@@ -179,6 +193,7 @@ module _ {L C N : Type 0} where
     pub links : after.links ≡ before.links
     pub came : after.came ≡ before.came
     pub waits : after.waits ≡ before.waits
+    pub quiets : after.quiets ≡ before.quiets
     pub port : after.port ≡ before.port
     pub faults : after.faults ≡ before.faults
     pub jobs : after.jobs ≡ before.jobs
@@ -191,15 +206,16 @@ module _ {L C N : Type 0} where
   SaysLost before after failed s =
       ((s ≡ 4) × failed × (after.written ≡ before.written)) ⊎ RanOut s before.written after.written
 
-  -- The own journal couldn't be begun: the hub was stopped.
-  pub record Unbegun (k : HubCourse) (own : Option N) (before after : HubWorld L C N) (s : ℕ) : Type 0 where
+  -- The own journal couldn't be begun, and no other was: the hub was stopped.
+  pub record Unbegun (k : HubCourse) (asked : HubTerms) (own : Option N) (before after : HubWorld L C N) (s : ℕ) : Type 0 where
     pub none : own ≡ None
     pub untouched : Untouched before after
+    pub begun : Grows before.begun after.begun (begun_call asked.prefix false (number_of k.first) ∷ [])
     pub stops : StopsAlone k
     pub says : SaysLost before after (HasRisen before.unbegun after.unbegun) s
 
-  -- The port wasn't bound: the acceptor's count of faults rose, it was asked for no link, and the pass and the spawner are as
-  -- they were.
+  -- The port wasn't bound: the acceptor's count of faults rose, it was asked for no link, no journal was begun, and the pass and
+  -- the spawner are as they were.
   pub record NotBound (k : HubCourse) (before after : HubWorld L C N) (s : ℕ) : Type 0 where
     pub pass : k.last ≡ k.first
     pub links : Stays before.links after.links
@@ -209,14 +225,17 @@ module _ {L C N : Type 0} where
     pub given_back : after.given_back ≡ before.given_back
     pub out : after.out ≡ before.out
     pub unstarted : after.unstarted ≡ before.unstarted
+    pub begun : after.begun ≡ before.begun
     pub failed : HasRisen before.faults after.faults
     pub says : EndsWith s 6 before.written after.written link_line
 
 module _ {L C N : Type 0} (tells : HubTelling L C N) where
-  -- The first line of the own journal, which was begun as one sink and is another since, wasn't put: the hub was stopped.
+  -- The first line of the own journal, which was begun as one sink and is another since, wasn't put: the hub was stopped, and no
+  -- other journal was begun.
   pub record Untitled (k : HubCourse) (begun own : N) (before after : HubWorld L C N) (s : ℕ) : Type 0 where
     pub part : PutsPrefix (tells.held begun) (tells.held own) (hub_line (about_of k.hub))
     pub untouched : Untouched before after
+    pub unasked : after.begun ≡ before.begun
     pub stops : StopsAlone k
     pub says : SaysLost before after (HasRisen (tells.unput begun) (tells.unput own)) s
 
@@ -225,7 +244,7 @@ module _ {L C N : Type 0} (tells : HubTelling L C N) where
   pub record Bound (k : HubCourse) (asked : HubTerms) (titled held' : Option (List ℕ)) (before after : HubWorld L C N) (s : ℕ) : Type 0 where
     pub end : ServeEnd
     pub bound : ToldIs after.port (Some asked.settings.port)
-    pub serving : Serving tells.works tells.begins (terms_of asked) (served_world k.hub titled (with_pass k.first before))
+    pub serving : Serving tells.works tells.begins tells.talk (terms_of asked) (served_world k.hub titled (with_pass k.first before))
         (served_world k.hub held' (with_pass k.last after)) end
     pub says : SaysEnd end s before.written after.written
 
@@ -237,14 +256,17 @@ module _ {L C N : Type 0} (tells : HubTelling L C N) where
       ⊎ ((titled : Option (List ℕ)) × Appends (tells.held begun) titled (hub_line (about_of k.hub))
       × ((NotBound k before after s × (tells.held own ≡ titled)) ⊎ Bound k asked titled (tells.held own) before after s))
 
-  -- The own journal was begun, as the journal of this prefix and of the number of the own pass, and it is kept.
+  -- The own journal was begun, as the journal of this prefix and of the number of the own pass, and it is kept; these were the calls
+  -- that began a journal then, and what went on since began those of the sessions.
   pub record Begun (k : HubCourse) (asked : HubTerms) (kept : Option N) (before after : HubWorld L C N) (s : ℕ) : Type 0 where
     pub begun : N
     pub own : N
     pub of_pass : tells.begins asked.prefix (number_of k.first) begun
     pub fresh : tells.unput begun ≡ 0
     pub keeps : kept ≡ Some own
-    pub went : Titling k asked begun own before after s
+    pub calls : Option (List BegunCall)
+    pub called : Grows before.begun calls (begun_call asked.prefix true (number_of k.first) ∷ [])
+    pub went : Titling k asked begun own (record before { begun = calls }) after s
 
   -- A hub of the settings was made, and it and its pass, number 0 at first, with nothing seen and no number drawn, are kept in the
   -- place; its own journal couldn't be begun, or it was begun and is kept there too, and this is what became of both.
@@ -259,5 +281,7 @@ module _ {L C N : Type 0} (tells : HubTelling L C N) where
     pub about : about_of (arc_value hub) ≡ record { hub = identity_of asked.settings; limits = limits_of asked.settings }
     -- who audits its own journal reads the first line as this hub;
     pub said : IsHubLine (hub_text (about_of (arc_value hub))) (about_of (arc_value hub))
-    pub went : Unbegun (record { hub = arc_value hub; first = first; last = last }) place.own before after s
+    -- and its identity has 26 octets, which say it;
+    pub identity : IsIdentity (about_of (arc_value hub)).hub
+    pub went : Unbegun (record { hub = arc_value hub; first = first; last = last }) asked place.own before after s
         ⊎ Begun (record { hub = arc_value hub; first = first; last = last }) asked place.own before after s

@@ -1,5 +1,7 @@
 //! The command over a file of settings.
-ghost use Rattle.std.specs.Prelude.{◌≡◌, ◌≤◌, ◌⊎◌, IfErr, IfOk, None, Option, Some, option_map};
+ghost use Rattle.std.specs.Prelude.{◌≡◌, ◌≤◌, ◌⊎◌, Err, IfErr, IfOk, None, Option, Some, option_map};
+ghost use Rattle.bsc_edge.specs.declared.fault.FileFault.{FileFault};
+ghost use Rattle.bsc_edge.specs.Asked.{GaveFile, ReadsOnce};
 ghost use Rattle.bsc_outside.specs.Faults.{HasRisen};
 ghost use Rattle.bsc_player.specs.Faults.{RisesIf};
 ghost use Rattle.bsc_player.specs.LastLines.{RanOut, SaysOrRunsOut};
@@ -17,6 +19,7 @@ use crate::settled::HubSettled;
 use crate::texts::settings_text;
 use crate::words::HubWords;
 use bsc_edge::{Acceptor, Clock, FileFault, Files, Journals, Link, Spawner};
+use bsc_octets::Octets;
 use bsc_outside::Sink;
 use bsc_player::{end_with, out_of_memory};
 use bsc_serve::ServingParts;
@@ -38,6 +41,16 @@ fn refuse<K: Sink>(alloc: Global, sink: &mut K, name: &str) -> u8
     }
 }
 
+/// The octets of the file at a path, which is read once, and no other.
+fn read_file<F: Files>(alloc: Global, files: &mut F, path: &str) -> Result<Octets, FileFault>
+    ensures gave { IfOk result (λ o. GaveFile F.holds F.loads files.old files.new path.now o) }
+    ensures once { ReadsOnce (F.loads files.old) (F.loads files.new) path.now }
+    ensures later { F.faults files.old ≤ F.faults files.new }
+    ensures failed { result ≡ Err FileFault.Failed → HasRisen (F.faults files.old) (F.faults files.new) }
+{
+    files.load(alloc, path)
+}
+
 /// The settings of a hub and the policy in them, or the status of a run that ends without them.
 fn load<K: Sink, F: Files>(
     alloc: Global,
@@ -45,15 +58,16 @@ fn load<K: Sink, F: Files>(
     files: &mut F,
     sink: &mut K,
 ) -> Result<HubSettled, u8>
-    ensures settled { IfOk result (λ v. IsSettled (F.holds files.old path.now) v.hub (policy_of v.policy) × (K.held sink.new ≡ K.held sink.old)) }
-    ensures unsettled { IfErr result (λ s. Unsettled (F.holds files.old path.now) (F.faults files.old) (F.faults files.new) s
+    ensures settled { IfOk result (λ v. IsSettled (GaveFile F.holds F.loads files.old files.new path.now) v.hub (policy_of v.policy) × (K.held sink.new ≡ K.held sink.old)) }
+    ensures unsettled { IfErr result (λ s. Unsettled (GaveFile F.holds F.loads files.old files.new path.now) (F.faults files.old) (F.faults files.new) s
         (K.held sink.old) (K.held sink.new)) }
+    ensures once { ReadsOnce (F.loads files.old) (F.loads files.new) path.now }
     ensures read { IfErr result (λ s. RisesIf s 3 (F.faults files.old) (F.faults files.new)) }
     ensures write { IfErr result (λ s. RisesIf s 4 (K.faults sink.old) (K.faults sink.new)) }
     ensures other { IfErr result (λ s. (s ≡ 3) ⊎ (s ≡ 4) ⊎ (s ≡ 5) ⊎ (s ≡ 7)) }
     ensures writes_later { K.faults sink.old ≤ K.faults sink.new }
 {
-    let text = match files.load(alloc, path) {
+    let text = match read_file(alloc, files, path) {
         Ok(text) => text,
         Err(FileFault::Failed) => return Err(end_with(sink, b"fault read\n", 3)),
         Err(FileFault::NoMemory) => return Err(out_of_memory(sink)),
@@ -96,19 +110,22 @@ pub fn run_hub<
     requires kept { place.old.kept.hub ≡ None }
     requires own { place.old.own ≡ None }
 
-    // Once a hub is made, its settings are those of the file, and this is what became of it.
+    // The file of settings was read, and no other.
+    ensures once { ReadsOnce (F.loads files.old) (F.loads files.new) words.entry.path.now }
+
+    // Once a hub is made, its settings are those that the file gave, and this is what became of it.
     ensures runs { (hub : _) → place.new.kept.hub ≡ Some hub → (v : HubSettingsType) × (policy : Option PolicyType)
-        × IsSettled (F.holds files.old words.entry.path.now) v policy
-        × HubRuns (telling (Worked L.talk L.faults L.notices C.readings N.held N.faults) J.begins N.held N.faults)
+        × IsSettled (GaveFile F.holds F.loads files.old files.new words.entry.path.now) v policy
+        × HubRuns (telling (Worked L.talk L.faults L.notices C.readings N.held N.faults) J.begins L.talk N.held N.faults)
         (record { settings = v; policy = policy; sessions = words.entry.sessions; prefix = option_map (λ p. p.now) words.entry.journal })
         place.new
-        (world_by (door_by A.left A.came A.waits A.bound A.faults) (stock_by P.jobs P.ends P.out P.faults) J.faults parts.old (K.held sink.old))
-        (world_by (door_by A.left A.came A.waits A.bound A.faults) (stock_by P.jobs P.ends P.out P.faults) J.faults parts.new (K.held sink.new)) result }
+        (world_by (door_by A.left A.came A.waits A.quiets A.bound A.faults) (stock_by P.jobs P.ends P.out P.faults) J.calls J.faults parts.old (K.held sink.old))
+        (world_by (door_by A.left A.came A.waits A.quiets A.bound A.faults) (stock_by P.jobs P.ends P.out P.faults) J.calls J.faults parts.new (K.held sink.new)) result }
 
     // Where none is made, the file wasn't read, its settings were refused, or memory ran out; and nothing was touched but the
     // files and the sink.
     ensures unmade { place.new.kept.hub ≡ None →
-        Unsettled (F.holds files.old words.entry.path.now) (F.faults files.old) (F.faults files.new)
+        Unsettled (GaveFile F.holds F.loads files.old files.new words.entry.path.now) (F.faults files.old) (F.faults files.new)
         result (K.held sink.old) (K.held sink.new) }
     ensures untouched { place.new.kept.hub ≡ None → (place.new ≡ place.old) × (parts.new ≡ parts.old) }
     ensures read { RisesIf result 3 (F.faults files.old) (F.faults files.new) }

@@ -11,7 +11,7 @@ ghost use Rattle.bsc_player.specs.LastLines.{RanOut, SaysOrRunsOut};
 ghost use Rattle.bsc_settings.specs.Parts.{identity_of, limits_of};
 ghost use Rattle.bsc_session.specs.Jobs.{Worked};
 ghost use Rattle.bsc_serve.specs.declared.end.ServeEnd.{ServeEnd};
-ghost use Rattle.bsc_journal.specs.Saying.{IsHubLine};
+ghost use Rattle.bsc_journal.specs.Saying.{IsHubLine, IsIdentity};
 ghost use Rattle.bsc_hub_command.specs.HubLines.{hub_line, hub_text};
 ghost use Rattle.bsc_hub_command.specs.Lines.{end_text};
 ghost use Rattle.bsc_hub_command.specs.Served.{Begun, Bound, HasFailed, HubRuns, NotBound, SaysEnd, StopsAlone, Titling, Unbegun, door_by, stock_by};
@@ -109,6 +109,7 @@ fn make_hub(alloc: Global, settings: &HubSettings) -> Result<(Arc<Hub>, Pass), N
     ensures about { IfOk result (λ (hub, _). about_of (arc_value hub)
         ≡ record { hub = identity_of settings.now; limits = limits_of settings.now }) }
     ensures said { IfOk result (λ (hub, _). IsHubLine (hub_text (about_of (arc_value hub))) (about_of (arc_value hub))) }
+    ensures identity { IfOk result (λ (hub, _). IsIdentity (about_of (arc_value hub)).hub) }
 {
     let who = settings.identity();
     is_identity(&who);
@@ -162,15 +163,15 @@ fn serve_hub<
     requires can { P.can_start parts.old.spawner }
     requires pass { IsCaller (arc_value made.hub.now) pass.old }
     ensures went { (NotBound (record { hub = arc_value made.entry.hub.now; first = pass.old; last = pass.new })
-        (world_by (door_by A.left A.came A.waits A.bound A.faults) (stock_by P.jobs P.ends P.out P.faults) J.faults parts.old (K.held sink.old))
-        (world_by (door_by A.left A.came A.waits A.bound A.faults) (stock_by P.jobs P.ends P.out P.faults) J.faults parts.new (K.held sink.new)) result
+        (world_by (door_by A.left A.came A.waits A.quiets A.bound A.faults) (stock_by P.jobs P.ends P.out P.faults) J.calls J.faults parts.old (K.held sink.old))
+        (world_by (door_by A.left A.came A.waits A.quiets A.bound A.faults) (stock_by P.jobs P.ends P.out P.faults) J.calls J.faults parts.new (K.held sink.new)) result
         × (N.held own.new ≡ N.held own.old))
-        ⊎ Bound (telling (Worked L.talk L.faults L.notices C.readings N.held N.faults) J.begins N.held N.faults)
+        ⊎ Bound (telling (Worked L.talk L.faults L.notices C.readings N.held N.faults) J.begins L.talk N.held N.faults)
         (record { hub = arc_value made.entry.hub.now; first = pass.old; last = pass.new })
         (terms_in asked.entry)
         (N.held own.old) (N.held own.new)
-        (world_by (door_by A.left A.came A.waits A.bound A.faults) (stock_by P.jobs P.ends P.out P.faults) J.faults parts.old (K.held sink.old))
-        (world_by (door_by A.left A.came A.waits A.bound A.faults) (stock_by P.jobs P.ends P.out P.faults) J.faults parts.new (K.held sink.new)) result }
+        (world_by (door_by A.left A.came A.waits A.quiets A.bound A.faults) (stock_by P.jobs P.ends P.out P.faults) J.calls J.faults parts.old (K.held sink.old))
+        (world_by (door_by A.left A.came A.waits A.quiets A.bound A.faults) (stock_by P.jobs P.ends P.out P.faults) J.calls J.faults parts.new (K.held sink.new)) result }
     ensures write { result ≡ 4 → HasRisen (K.faults sink.old) (K.faults sink.new)
         ⊎ HasRisen (J.faults parts.old.journals) (J.faults parts.new.journals)
         ⊎ HasRisen (N.faults own.old) (N.faults own.new) }
@@ -222,12 +223,12 @@ fn serve_titled<
     requires pass { IsCaller (arc_value made.hub.now) pass.old }
     requires about { about_of (arc_value made.hub.now)
         ≡ record { hub = identity_of asked.settings.now; limits = limits_of asked.settings.now } }
-    ensures went { Titling (telling (Worked L.talk L.faults L.notices C.readings N.held N.faults) J.begins N.held N.faults)
+    ensures went { Titling (telling (Worked L.talk L.faults L.notices C.readings N.held N.faults) J.begins L.talk N.held N.faults)
         (record { hub = arc_value made.entry.hub.now; first = pass.old; last = pass.new })
         (terms_in asked.entry)
         own.old own.new
-        (world_by (door_by A.left A.came A.waits A.bound A.faults) (stock_by P.jobs P.ends P.out P.faults) J.faults parts.old (K.held sink.old))
-        (world_by (door_by A.left A.came A.waits A.bound A.faults) (stock_by P.jobs P.ends P.out P.faults) J.faults parts.new (K.held sink.new)) result }
+        (world_by (door_by A.left A.came A.waits A.quiets A.bound A.faults) (stock_by P.jobs P.ends P.out P.faults) J.calls J.faults parts.old (K.held sink.old))
+        (world_by (door_by A.left A.came A.waits A.quiets A.bound A.faults) (stock_by P.jobs P.ends P.out P.faults) J.calls J.faults parts.new (K.held sink.new)) result }
     ensures write { result ≡ 4 → HasRisen (K.faults sink.old) (K.faults sink.new)
         ⊎ HasRisen (J.faults parts.old.journals) (J.faults parts.new.journals)
         ⊎ HasRisen (N.faults own.old) (N.faults own.new) }
@@ -270,15 +271,15 @@ fn serve_begun<
     requires about { about_of (arc_value made.hub.now)
         ≡ record { hub = identity_of asked.settings.now; limits = limits_of asked.settings.now } }
     requires own { own.old ≡ None }
-    ensures went { Unbegun (record { hub = arc_value made.entry.hub.now; first = pass.old; last = pass.new }) own.new
-        (world_by (door_by A.left A.came A.waits A.bound A.faults) (stock_by P.jobs P.ends P.out P.faults) J.faults parts.old (K.held sink.old))
-        (world_by (door_by A.left A.came A.waits A.bound A.faults) (stock_by P.jobs P.ends P.out P.faults) J.faults parts.new (K.held sink.new)) result
-        ⊎ Begun (telling (Worked L.talk L.faults L.notices C.readings N.held N.faults) J.begins N.held N.faults)
+    ensures went { Unbegun (record { hub = arc_value made.entry.hub.now; first = pass.old; last = pass.new }) (terms_in asked.entry) own.new
+        (world_by (door_by A.left A.came A.waits A.quiets A.bound A.faults) (stock_by P.jobs P.ends P.out P.faults) J.calls J.faults parts.old (K.held sink.old))
+        (world_by (door_by A.left A.came A.waits A.quiets A.bound A.faults) (stock_by P.jobs P.ends P.out P.faults) J.calls J.faults parts.new (K.held sink.new)) result
+        ⊎ Begun (telling (Worked L.talk L.faults L.notices C.readings N.held N.faults) J.begins L.talk N.held N.faults)
         (record { hub = arc_value made.entry.hub.now; first = pass.old; last = pass.new })
         (terms_in asked.entry)
         own.new
-        (world_by (door_by A.left A.came A.waits A.bound A.faults) (stock_by P.jobs P.ends P.out P.faults) J.faults parts.old (K.held sink.old))
-        (world_by (door_by A.left A.came A.waits A.bound A.faults) (stock_by P.jobs P.ends P.out P.faults) J.faults parts.new (K.held sink.new)) result }
+        (world_by (door_by A.left A.came A.waits A.quiets A.bound A.faults) (stock_by P.jobs P.ends P.out P.faults) J.calls J.faults parts.old (K.held sink.old))
+        (world_by (door_by A.left A.came A.waits A.quiets A.bound A.faults) (stock_by P.jobs P.ends P.out P.faults) J.calls J.faults parts.new (K.held sink.new)) result }
     ensures write { result ≡ 4 → HasRisen (K.faults sink.old) (K.faults sink.new)
         ⊎ HasRisen (J.faults parts.old.journals) (J.faults parts.new.journals) ⊎ HasFailed N.faults own.new }
     ensures link { RisesIf result 6 (A.faults parts.old.acceptor) (A.faults parts.new.acceptor) }
@@ -328,10 +329,10 @@ pub fn serve<
 
     // Once a hub is made, it, its pass and its journal are kept, and this is what became of it.
     ensures runs { (hub : _) → place.new.kept.hub ≡ Some hub →
-        HubRuns (telling (Worked L.talk L.faults L.notices C.readings N.held N.faults) J.begins N.held N.faults)
+        HubRuns (telling (Worked L.talk L.faults L.notices C.readings N.held N.faults) J.begins L.talk N.held N.faults)
         (terms_in asked.entry) place.new
-        (world_by (door_by A.left A.came A.waits A.bound A.faults) (stock_by P.jobs P.ends P.out P.faults) J.faults parts.old (K.held sink.old))
-        (world_by (door_by A.left A.came A.waits A.bound A.faults) (stock_by P.jobs P.ends P.out P.faults) J.faults parts.new (K.held sink.new)) result }
+        (world_by (door_by A.left A.came A.waits A.quiets A.bound A.faults) (stock_by P.jobs P.ends P.out P.faults) J.calls J.faults parts.old (K.held sink.old))
+        (world_by (door_by A.left A.came A.waits A.quiets A.bound A.faults) (stock_by P.jobs P.ends P.out P.faults) J.calls J.faults parts.new (K.held sink.new)) result }
 
     // Where none is made there was no memory, and nothing was touched but the sink.
     ensures unmade { place.new.kept.hub ≡ None → RanOut result (K.held sink.old) (K.held sink.new) }

@@ -133,7 +133,7 @@ pub works_alone : {L C N : Type 0} (talk : L → Option (List Said)) (faults : L
     → WorksAlone (Worked talk faults notices readings held unput)
 works_alone talk faults notices readings held unput j d w = let goes = w.served.goes in (goes.caller.0.1.1.2 ∙ goes.number, goes.draws_none)
 
-module _ {L C N : Type 0} (works : SessionJob L C N → SessionEnd L C N → Type 0) (begins : Option (List ℕ) → ℕ → N → Type 0) (alone : WorksAlone works) where
+module _ {L C N : Type 0} (works : SessionJob L C N → SessionEnd L C N → Type 0) (begins : Option (List ℕ) → ℕ → N → Type 0) (talk : L → Option (List Said)) (alone : WorksAlone works) where
   -- where no job is out at last, whoever has a number that was drawn ended
   covered : (out : List (SessionJob L C N)) (events : List (Event L C N)) → OutAfter works out events [] → (n : ℕ)
       → (has (numbers_out out) n ≡ true) ⊎ (has (numbers_of events) n ≡ true) → has (numbers (callers_of events)) n ≡ true
@@ -184,11 +184,11 @@ module _ {L C N : Type 0} (works : SessionJob L C N → SessionEnd L C N → Typ
   Unloaded j = loads_made j.pass ≡ 0
 
   -- none of those that ended asked for a number
-  unloaded : (h : Hub) (terms : Terms) (p q : Pass) (out : List (SessionJob L C N)) (events : List (Event L C N)) (still : List (SessionJob L C N)) → AreFates begins h terms p q events
+  unloaded : (h : Hub) (terms : Terms) (p q : Pass) (out : List (SessionJob L C N)) (events : List (Event L C N)) (still : List (SessionJob L C N)) → AreFates begins talk h terms p q events
       → AllByRecursion Unloaded out → OutAfter works out events still → AllByRecursion (λ (e : EndedCaller). e.loads ≡ 0) (callers_of events)
   unloaded h terms p q out [] still f a o = tt
   unloaded h terms p q out (arrived l (started j) ∷ more) still f a o = unloaded h terms p q (out ++ j ∷ []) more still f.1 (all_append Unloaded out (j ∷ []) a (f.0.pass.new.2, tt)) o
-  unloaded h terms p q out (arrived l (returned e) ∷ more) still f a o = (f.0.1, unloaded h terms p q (out ++ []) more still f.1 (all_append Unloaded out [] a tt) o)
+  unloaded h terms p q out (arrived l (returned e) ∷ more) still f a o = (f.0.0.1, unloaded h terms p q (out ++ []) more still f.1 (all_append Unloaded out [] a tt) o)
   unloaded h terms p q out (arrived l spent ∷ more) still f a o = unloaded h terms p q (out ++ []) more still f.1 (all_append Unloaded out [] a tt) o
   unloaded h terms p q out (ended j d ∷ more) still f a o =
       let k = all_split Unloaded o.0 j o.1 (subst (λ (x : List (SessionJob L C N)). AllByRecursion Unloaded x) o.2 a) in
@@ -203,12 +203,12 @@ module _ {L C N : Type 0} (works : SessionJob L C N → SessionEnd L C N → Typ
   cut_unloaded (Some c) end by = (by.1.1, tt)
 
   -- what took no link made no job and drew no number
-  fates_none : (h : Hub) (terms : Terms) (p q : Pass) (late : List (Event L C N)) → links_of late ≡ [] → AreFates begins h terms p q late
+  fates_none : (h : Hub) (terms : Terms) (p q : Pass) (late : List (Event L C N)) → links_of late ≡ [] → AreFates begins talk h terms p q late
   fates_none h terms p q [] none = tt
   fates_none h terms p q (arrived l f ∷ more) none = absurd (let bad : l ∷ links_of more ≡ [] = none in cc)
   fates_none h terms p q (ended j d ∷ more) none = fates_none h terms p q more none
 
-  pub serving_is_alone : ServingIsAlone works begins
+  pub serving_is_alone : ServingIsAlone works begins talk
   serving_is_alone terms before after end first s =
       let p = before.beside.pass in
       let q = after.beside.pass in
@@ -225,7 +225,7 @@ module _ {L C N : Type 0} (works : SessionJob L C N → SessionEnd L C N → Typ
       let both_names : numbers (callers_of (s.events ++ s.late)) ≡ numbers (callers_of s.events) ++ late_names =
       ap numbers both ∙ map-append (λ (e : EndedCaller). e.number) (callers_of s.events) (callers_of s.late) in
       let out : OutAfter works [] (s.events ++ s.late) [] = out_then works [] s.still [] s.events s.late s.out s.late_out in
-      let fates : AreFates begins before.hub terms p q (s.events ++ s.late) = fates_then begins before.hub terms p q s.events s.late s.fates (fates_none before.hub terms p q s.late s.only_ends) in
+      let fates : AreFates begins talk before.hub terms p q (s.events ++ s.late) = fates_then begins talk before.hub terms p q s.events s.late s.fates (fates_none before.hub terms p q s.late s.only_ends) in
       let light : AllByRecursion (λ (e : EndedCaller). e.loads ≡ 0) (callers_of s.events ++ callers_of s.late) =
       subst (AllByRecursion (λ (e : EndedCaller). e.loads ≡ 0)) both (unloaded before.hub terms p q [] (s.events ++ s.late) [] fates tt out) in
       let all : TookAll took q = record {
@@ -298,7 +298,7 @@ stop_alone h p v q drew took last (Ok t) w x none earlier later e at mine =
     ap (λ (l : List Entry). own l n) at ∙ (own-append earlier (e ∷ later) n ∙ ap (λ (b : Bool). own earlier n ++ cond b (e ∷ own later n) (own later n)) (eq-eqb e.caller n mine)) in
     ap (λ (y : Entry). y.call) (one_alone (own earlier n) (own later n) e s (sym there ∙ all))
 
-module _ {L C N : Type 0} (works : SessionJob L C N → SessionEnd L C N → Type 0) (begins : Option (List ℕ) → ℕ → N → Type 0) (alone : WorksAlone works) where
+module _ {L C N : Type 0} (works : SessionJob L C N → SessionEnd L C N → Type 0) (begins : Option (List ℕ) → ℕ → N → Type 0) (talk : L → Option (List Said)) (alone : WorksAlone works) where
   -- a job, by its number
   job_there : (js : List (SessionJob L C N)) (n : ℕ) → has (map (λ (j : SessionJob L C N). number_of j.pass) js) n ≡ true → IsOfJob js n
   job_there [] n h = absurd (not_none n h)
@@ -310,7 +310,7 @@ module _ {L C N : Type 0} (works : SessionJob L C N → SessionEnd L C N → Typ
 
   -- of the callers that were taken in, one with an entry is that of a job that was out, or taken
   of_job : (h : Hub) (terms : Terms) (p q x : Pass) (front rest : List EndedCaller) (out : List (SessionJob L C N)) (events : List (Event L C N)) (still : List (SessionJob L C N))
-      → AreFates begins h terms p x events → OutAfter works out events still → IsConsistent (view_of q) → ended_callers q ≡ front ++ (callers_of events ++ rest)
+      → AreFates begins talk h terms p x events → OutAfter works out events still → IsConsistent (view_of q) → ended_callers q ≡ front ++ (callers_of events ++ rest)
       → (n : ℕ) → own_of (seen q) n ≢ [] → has (numbers (callers_of events)) n ≡ true → has (numbers_out (out ++ jobs_of events)) n ≡ true
   of_job h terms p q x front rest out [] still f o c same n entered i = absurd (not_none n i)
   of_job h terms p q x front rest out (arrived l (started j) ∷ more) still f o c same n entered i =
@@ -319,7 +319,7 @@ module _ {L C N : Type 0} (works : SessionJob L C N → SessionEnd L C N → Typ
   of_job h terms p q x front rest out (arrived l (returned e) ∷ more) still f o c same n entered i =
       let k = ended_so q front e (callers_of more ++ rest) c same in
       ⊎_elim
-      (λ is. absurd (entered (ap (λ (m : ℕ). own_of (seen q) m) (sym is) ∙ (k.1 ∙ f.0.0))))
+      (λ is. absurd (entered (ap (λ (m : ℕ). own_of (seen q) m) (sym is) ∙ (k.1 ∙ f.0.0.0))))
       (λ a. ap (λ (js : List (SessionJob L C N)). has (numbers_out (js ++ jobs_of more)) n) (sym (append-nil out))
       ∙ of_job h terms p q x (front ++ e ∷ []) rest (out ++ []) more still f.1 o c (same ∙ sym (append_assoc front (e ∷ []) (callers_of more ++ rest))) n entered a)
       (has_cons e.number (numbers (callers_of more)) n i)
@@ -376,7 +376,7 @@ module _ {L C N : Type 0} (works : SessionJob L C N → SessionEnd L C N → Typ
   jobs_none (ended j d ∷ more) none = jobs_none more none
 
   -- who ended in the pass at last: the callers of each part, between those before it and those behind
-  in_events : (terms : Terms) (before after : ServedWorld L C N) (end : ServeEnd) (s : Serving works begins terms before after end)
+  in_events : (terms : Terms) (before after : ServedWorld L C N) (end : ServeEnd) (s : Serving works begins talk terms before after end)
       → ended_callers after.beside.pass ≡ ended_callers before.beside.pass ++ (callers_of s.events ++ (cut_callers s.cut ++ callers_of s.late))
   in_events terms before after end s =
       let p = ended_callers before.beside.pass in
@@ -384,11 +384,11 @@ module _ {L C N : Type 0} (works : SessionJob L C N → SessionEnd L C N → Typ
       ∙ (append_assoc p (callers_of s.events ++ cut_callers s.cut) (callers_of s.late)
       ∙ ap (λ (k : List EndedCaller). p ++ k) (append_assoc (callers_of s.events) (cut_callers s.cut) (callers_of s.late))))
 
-  in_late : (terms : Terms) (before after : ServedWorld L C N) (end : ServeEnd) (s : Serving works begins terms before after end)
+  in_late : (terms : Terms) (before after : ServedWorld L C N) (end : ServeEnd) (s : Serving works begins talk terms before after end)
       → ended_callers after.beside.pass ≡ ended_callers s.at_stop ++ (callers_of s.late ++ [])
   in_late terms before after end s = s.joined.takes_in ∙ ap (λ (k : List EndedCaller). ended_callers s.at_stop ++ k) (sym (append-nil (callers_of s.late)))
 
-  pub seen_are_of_jobs : SeenAreOfJobs works begins
+  pub seen_are_of_jobs : SeenAreOfJobs works begins talk
   seen_are_of_jobs terms before after end first s earlier behind e at =
       let p = before.beside.pass in
       let q = after.beside.pass in
@@ -409,14 +409,14 @@ module _ {L C N : Type 0} (works : SessionJob L C N → SessionEnd L C N → Typ
       (ap (λ (l : List ℕ). has l n) (sym (map-append (λ (x : EndedCaller). x.number) (callers_of s.events) (cut_callers s.cut))) ∙ a)))
       (λ a.
       let out : has (numbers_out (s.still ++ jobs_of s.late)) n ≡ true =
-      of_job before.hub terms p q q (ended_callers s.at_stop) [] s.still s.late [] (fates_none works begins alone before.hub terms p q s.late s.only_ends) s.late_out consistent (in_late terms before after end s) n entered a in
+      of_job before.hub terms p q q (ended_callers s.at_stop) [] s.still s.late [] (fates_none works begins talk alone before.hub terms p q s.late s.only_ends) s.late_out consistent (in_late terms before after end s) n entered a in
       let still_is : s.still ++ jobs_of s.late ≡ s.still = ap (λ (js : List (SessionJob L C N)). s.still ++ js) (jobs_none s.late s.only_ends) ∙ append-nil s.still in
       job_there (jobs_of s.events) n (out_among [] s.events s.still s.out n (ap (λ (js : List (SessionJob L C N)). has (numbers_out js) n) (sym still_is) ∙ out)))
       (has_either (numbers front) (numbers (callers_of s.late)) n
       (ap (λ (l : List ℕ). has l n) (sym (map-append (λ (x : EndedCaller). x.number) front (callers_of s.late))) ∙ one))))
-      (serving_is_alone works begins alone terms before after end first s earlier behind e at)
+      (serving_is_alone works begins talk alone terms before after end first s earlier behind e at)
 
-  pub all_but_stop_are_of_jobs : AllButStopAreOfJobs works begins
+  pub all_but_stop_are_of_jobs : AllButStopAreOfJobs works begins talk
   all_but_stop_are_of_jobs terms before after end first mine s earlier later e at =
       let p = before.beside.pass in
       let q = after.beside.pass in
@@ -425,7 +425,7 @@ module _ {L C N : Type 0} (works : SessionJob L C N → SessionEnd L C N → Typ
       (λ job. inr job)
       (seen_are_of_jobs terms before after end first s earlier later e at)
 
-  pub entries_are_of_jobs : EntriesAreOfJobs works begins
+  pub entries_are_of_jobs : EntriesAreOfJobs works begins talk
   entries_are_of_jobs terms before after end first mine s earlier later e at =
       let p = before.beside.pass in
       let q = after.beside.pass in
@@ -446,7 +446,7 @@ all_insert P (y ∷ before) x behind it a = (a.0, all_insert P before x behind i
 seen_so : (q : Pass) (front : List EndedCaller) (e : EndedCaller) (rest : List EndedCaller) → IsConsistent (view_of q) → ended_callers q ≡ front ++ e ∷ rest → StartsWith (seen q) e.seen
 seen_so q front e rest c same = (c.1 (length front) e (subst (λ (x : List EndedCaller). get_elem? x (length front) ≡ some e) (sym same) (at_middle front e rest))).2
 
-module _ {L C N : Type 0} (works : SessionJob L C N → SessionEnd L C N → Type 0) (begins : Option (List ℕ) → ℕ → N → Type 0) (alone : WorksAlone works) where
+module _ {L C N : Type 0} (works : SessionJob L C N → SessionEnd L C N → Type 0) (begins : Option (List ℕ) → ℕ → N → Type 0) (talk : L → Option (List Said)) (alone : WorksAlone works) where
   each_ended : (H : List Entry) (q : Pass) (front rest : List EndedCaller) (out : List (SessionJob L C N)) (events : List (Event L C N)) → OutAfter works out events [] → AllStand H events
       → IsConsistent (view_of q) → ended_callers q ≡ front ++ (callers_of events ++ rest) → AllByRecursion (HasEnded works H q) (out ++ jobs_of events)
   each_ended H q front rest out [] o stand c same = subst (λ (js : List (SessionJob L C N)). AllByRecursion (HasEnded works H q) (js ++ [])) o tt
@@ -469,10 +469,10 @@ module _ {L C N : Type 0} (works : SessionJob L C N → SessionEnd L C N → Typ
       (all_insert (HasEnded works H q) o.0 j (o.1 ++ jobs_of more) mine
       (subst (AllByRecursion (HasEnded works H q)) (append_assoc o.0 o.1 (jobs_of more)) later)))
 
-  pub jobs_have_ended : JobsHaveEnded works begins
+  pub jobs_have_ended : JobsHaveEnded works begins talk
   jobs_have_ended terms before after end s none =
       each_ended (found_history (stop_made (number_of before.beside.pass) s.stop) after.beside.pass) after.beside.pass (ended_callers before.beside.pass) (cut_callers s.cut ++ callers_of s.late) [] s.events
-      (subst (λ (l : List (SessionJob L C N)). OutAfter works [] s.events l) none s.out) s.stop_last s.joined.caller.0.1.1.5 (in_events works begins alone terms before after end s)
+      (subst (λ (l : List (SessionJob L C N)). OutAfter works [] s.events l) none s.out) s.stop_last s.joined.caller.0.1.1.5 (in_events works begins talk alone terms before after end s)
 
   -- also those that were still out
   each_ends : (H : List Entry) (q : Pass) (front rest : List EndedCaller) (out : List (SessionJob L C N)) (events : List (Event L C N)) (still : List (SessionJob L C N)) → OutAfter works out events still
@@ -501,7 +501,7 @@ module _ {L C N : Type 0} (works : SessionJob L C N → SessionEnd L C N → Typ
       (all_insert (HasEndedAtLast works H q) o.0 j (o.1 ++ jobs_of more) mine
       (subst (AllByRecursion (HasEndedAtLast works H q)) (append_assoc o.0 o.1 (jobs_of more)) others)))
 
-  pub jobs_end_at_last : JobsEndAtLast works begins
+  pub jobs_end_at_last : JobsEndAtLast works begins talk
   jobs_end_at_last terms before after end s =
       let p = before.beside.pass in
       let q = after.beside.pass in
@@ -510,8 +510,8 @@ module _ {L C N : Type 0} (works : SessionJob L C N → SessionEnd L C N → Typ
       let c = s.joined.caller.0.1.1.5 in
       let still : AllByRecursion (HasEndedAtLast works H q) s.still =
       all_front (HasEndedAtLast works H q) s.still (jobs_of s.late)
-      (each_ends H q (ended_callers s.at_stop) [] s.still s.late [] s.late_out tt k.0 k.1 c (in_late works begins alone terms before after end s)) in
-      each_ends H q (ended_callers p) (cut_callers s.cut ++ callers_of s.late) [] s.events s.still s.out still k.0 k.1 c (in_events works begins alone terms before after end s)
+      (each_ends H q (ended_callers s.at_stop) [] s.still s.late [] s.late_out tt k.0 k.1 c (in_late works begins talk alone terms before after end s)) in
+      each_ends H q (ended_callers p) (cut_callers s.cut ++ callers_of s.late) [] s.events s.still s.out still k.0 k.1 c (in_events works begins talk alone terms before after end s)
 
 -- ---- behind the Stop
 
@@ -527,8 +527,8 @@ told_by a H caller (Leave conn taken empties) looks r stopped is may = tt
 told_by a H caller Stop looks r stopped is may = (let bad : false ≡ true = subst (λ (b : Bool). IsTrue (not b)) stopped may in cc)
 told_by a H caller Count looks r stopped is may = tt
 
-pub nothing_behind_stop : {L C N : Type 0} (works : SessionJob L C N → SessionEnd L C N → Type 0) (begins : Option (List ℕ) → ℕ → N → Type 0) → NothingBehindStop works begins
-nothing_behind_stop works begins terms before after end s earlier later e at stopped =
+pub nothing_behind_stop : {L C N : Type 0} (works : SessionJob L C N → SessionEnd L C N → Type 0) (begins : Option (List ℕ) → ℕ → N → Type 0) (talk : L → Option (List Said)) → NothingBehindStop works begins talk
+nothing_behind_stop works begins talk terms before after end s earlier later e at stopped =
     let a : About = about_of before.hub in
     let k = Legal-at a earlier later e (subst (λ (H : List Entry). Legal a H) at s.joined.caller.1) in
     told_by a earlier e.caller e.call e.looks e.reply stopped k.replied k.called
@@ -563,8 +563,8 @@ module _ {L C N : Type 0} where
   apart_all (arrived l spent ∷ more) rest r = apart_all more rest r
   apart_all (ended j d ∷ more) rest r = apart_all more rest r
 
-  pub jobs_are_apart : (works : SessionJob L C N → SessionEnd L C N → Type 0) (begins : Option (List ℕ) → ℕ → N → Type 0) → JobsAreApart works begins
-  jobs_are_apart works begins terms before after end s =
+  pub jobs_are_apart : (works : SessionJob L C N → SessionEnd L C N → Type 0) (begins : Option (List ℕ) → ℕ → N → Type 0) (talk : L → Option (List Said)) → JobsAreApart works begins talk
+  jobs_are_apart works begins talk terms before after end s =
       apart_all s.events (cut_numbers s.cut)
       (rises_behind (drawn_list before.beside.pass) (numbers_of s.events ++ cut_numbers s.cut)
       (subst RisesOn s.drew (rises_on (drawn_list after.beside.pass) s.joined.caller.0.1.1.5.5)))

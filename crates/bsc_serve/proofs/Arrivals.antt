@@ -1,7 +1,7 @@
 -- Lists of what happened, and of what is told, with one more.
 use Rattle.std.proofs.Common.{inl, inr, ◌≡◌, ℕ, ◌+◌, ◌≤◌, List, [], ◌∷◌, ◌++◌, length, Option, Some, None, Ok, Err, refl, ap, sym, ◌∙◌, subst, arith, append-nil, append_assoc}
-use Rattle.std.specs.Prelude.{replicate}
-use Rattle.std.proofs.lemmas.List.{replicate_more}
+use Rattle.std.specs.Prelude.{map, replicate, true}
+use Rattle.std.proofs.lemmas.List.{map-append, replicate_more}
 use Rattle.bsc_turn.specs.declared.pass.Pass.{Pass}
 use Rattle.bsc_turn.specs.declared.view.Ended.{Ended as EndedCaller}
 use Rattle.bsc_turn.specs.Effects.{ended_of}
@@ -12,12 +12,13 @@ use Rattle.bsc_hub.proofs.Following.{starts_then}
 use Rattle.bsc_edge.specs.declared.arrived.Arrived.{Arrived}
 use Rattle.bsc_edge.specs.declared.arrived.Arrived.TheVariants.{Link, Quiet}
 use Rattle.bsc_edge.specs.declared.fault.LinkFault.{LinkFault}
+use Rattle.bsc_edge.specs.declared.said.Said.{Said}
 use Rattle.bsc_edge.specs.Told.{Grows, Leaves, Stays, arrived_in}
 use Rattle.bsc_edge.proofs.Common.{grows_then}
 use Rattle.bsc_session.specs.declared.job.SessionJob.{SessionJob}
 use Rattle.bsc_session.specs.declared.session_end.SessionEnd.{SessionEnd}
 use Rattle.bsc_serve.specs.declared.bounds.TheConstants.{WAIT_MS}
-use Rattle.bsc_serve.specs.Events.{AreFates, Event, OutAfter, arrived, callers_of, ended, ends_of, jobs_of, links_of, numbers_in, numbers_of, returned_of, unstarted_of}
+use Rattle.bsc_serve.specs.Events.{AreFates, Event, OutAfter, arrived, begun_call, begun_of, callers_of, ended, ends_of, jobs_of, links_of, numbers_in, numbers_of, returned_of, unstarted_of}
 use Rattle.bsc_serve.specs.Fates.{Fate, IsFate, IsSplitIn, caller_in, job_in, returned, spent, started, unstarted_in}
 use Rattle.bsc_serve.specs.Inner.{AllEnded, limit_of}
 use Rattle.bsc_serve.specs.Serving.{Loses, RoseBy}
@@ -53,6 +54,9 @@ module _ {L C N : Type 0} where
   numbers-append [] last = refl
   numbers-append (arrived l f ∷ more) last = ap (λ (k : List ℕ). numbers_in f ++ k) (numbers-append more last) ∙ sym (append_assoc (numbers_in f) (numbers_of more) (numbers_of last))
   numbers-append (ended j d ∷ more) last = numbers-append more last
+
+  pub begun-append : (prefix : Option (List ℕ)) (more last : List (Event L C N)) → begun_of prefix (more ++ last) ≡ begun_of prefix more ++ begun_of prefix last
+  begun-append prefix more last = ap (λ (k : List ℕ). map (begun_call prefix true) k) (numbers-append more last) ∙ map-append (begun_call prefix true) (numbers_of more) (numbers_of last)
 
   pub returned-append : (more last : List (Event L C N)) → returned_of (more ++ last) ≡ returned_of more + returned_of last
   returned-append [] last = omega arith
@@ -145,23 +149,24 @@ split_later h p m q x begins is = record {
   new = is.new;
   number = is.number;
   drawn = is.drawn;
+  room = is.room;
   since = is.since;
   by = starts_then (seen x) (seen m) (seen q) is.by begins;
 }
 
-module _ {L C N : Type 0} (begins : Option (List ℕ) → ℕ → N → Type 0) where
-  fate_later : (h : Hub) (terms : Terms) (p m q : Pass) (l : L) (f : Fate (SessionJob L C N)) → StartsWith (seen q) (seen m) → SpentStays h m q → IsFate begins h terms p m l f → IsFate begins h terms p q l f
+module _ {L C N : Type 0} (begins : Option (List ℕ) → ℕ → N → Type 0) (talk : L → Option (List Said)) where
+  fate_later : (h : Hub) (terms : Terms) (p m q : Pass) (l : L) (f : Fate (SessionJob L C N)) → StartsWith (seen q) (seen m) → SpentStays h m q → IsFate begins talk h terms p m l f → IsFate begins talk h terms p q l f
   fate_later h terms p m q l (started j) begins stays is = record { link = is.link; hub = is.hub; pass = split_later h p m q j.pass begins is.pass; limits = is.limits; turns = is.turns; journal = is.journal; is_recorded = is.is_recorded; policy = is.policy }
   fate_later h terms p m q l (returned e) begins stays is = is
-  fate_later h terms p m q l spent begins stays is = stays is
+  fate_later h terms p m q l spent begins stays is = (stays is.0, is.1)
 
   -- what became of links is so by what the pass has seen later
-  pub fates_later : (h : Hub) (terms : Terms) (p m q : Pass) (more : List (Event L C N)) → StartsWith (seen q) (seen m) → SpentStays h m q → AreFates begins h terms p m more → AreFates begins h terms p q more
+  pub fates_later : (h : Hub) (terms : Terms) (p m q : Pass) (more : List (Event L C N)) → StartsWith (seen q) (seen m) → SpentStays h m q → AreFates begins talk h terms p m more → AreFates begins talk h terms p q more
   fates_later h terms p m q [] begins stays are = tt
   fates_later h terms p m q (arrived l f ∷ more) begins stays are = (fate_later h terms p m q l f begins stays are.0, fates_later h terms p m q more begins stays are.1)
   fates_later h terms p m q (ended j d ∷ more) begins stays are = fates_later h terms p m q more begins stays are
 
-  pub fates_then : (h : Hub) (terms : Terms) (p q : Pass) (more last : List (Event L C N)) → AreFates begins h terms p q more → AreFates begins h terms p q last → AreFates begins h terms p q (more ++ last)
+  pub fates_then : (h : Hub) (terms : Terms) (p q : Pass) (more last : List (Event L C N)) → AreFates begins talk h terms p q more → AreFates begins talk h terms p q last → AreFates begins talk h terms p q (more ++ last)
   fates_then h terms p q [] last a b = b
   fates_then h terms p q (arrived l f ∷ more) last a b = (a.0, fates_then h terms p q more last a.1 b)
   fates_then h terms p q (ended j d ∷ more) last a b = fates_then h terms p q more last a b

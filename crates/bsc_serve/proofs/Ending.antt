@@ -24,6 +24,8 @@ use Rattle.bsc_hub.specs.Passing.{Placed, Went}
 use Rattle.bsc_hub.proofs.Following.{drew_no_number, passed_none, starts_then, went_then}
 use Rattle.bsc_edge.specs.declared.fault.LinkFault.{LinkFault}
 use Rattle.bsc_edge.specs.declared.fault.LinkFault.TheVariants.{Failed, NoMemory as NoRoom}
+use Rattle.bsc_edge.specs.declared.begun.Begun.{Begun}
+use Rattle.bsc_edge.specs.declared.said.Said.{Said}
 use Rattle.bsc_edge.specs.Told.{Grows, Stays}
 use Rattle.bsc_edge.proofs.Common.{grows_from, grows_then}
 use Rattle.bsc_notes.specs.Notes.{HasLine, Records}
@@ -34,9 +36,9 @@ use Rattle.bsc_serve.specs.declared.halt.Halt.TheVariants.{AcceptFault as HaltFa
 use Rattle.bsc_session.specs.declared.job.SessionJob.{SessionJob}
 use Rattle.bsc_session.specs.declared.session_end.SessionEnd.{SessionEnd}
 use Rattle.bsc_serve.specs.Terms.{Terms}
-use Rattle.bsc_serve.specs.Events.{Event, OutAfter, callers_of, ends_of, jobs_of, links_of, numbers_of, returned_of, unstarted_of}
+use Rattle.bsc_serve.specs.Events.{Event, OutAfter, begun_of, callers_of, ends_of, jobs_of, links_of, numbers_of, returned_of, unstarted_of}
 use Rattle.bsc_serve.specs.Inner.{CutAt, GaveBack, Halted, Stopped, Taken, TakesIn, fault_halt, halt_end, stock_of, whole_end, world_of}
-use Rattle.bsc_serve.specs.Serving.{Cut, CutBy, EndsSo, IsWithin, JournalFailed, Loses, RoseBy, Serving, StopAnswers, cut_callers, cut_links, stop_notes}
+use Rattle.bsc_serve.specs.Serving.{AreAnswered, Cut, CutBy, EndsSo, IsCutShort, IsWithin, JournalFailed, Loses, RoseBy, Serving, StopAnswers, cut_callers, cut_links, stop_notes}
 use Rattle.bsc_serve.specs.Tallies.{CountsUp, Remains}
 use Rattle.bsc_serve.specs.Worlds.{ServeWorld, Stock, served_world}
 use Rattle.bsc_serve.proofs.Arrivals.{SpentStays, fates_later, few_unstarted, grows_still, rose_later}
@@ -175,16 +177,31 @@ halt_lost HaltMemory None e x y = absurd (let k : NoMemory ≡ JournalFault = e 
 halt_lost HaltMemory (Some Failed) e x y = inr (y refl)
 halt_lost HaltMemory (Some NoRoom) e x y = absurd (let k : NoMemory ≡ JournalFault = e in cc)
 
+-- what halted cut it short
+halts_short : (halt : Halt) (lost : Option LinkFault) → IsCutShort (halt_end halt lost)
+halts_short HaltJournal lost = tt
+halts_short HaltFault None = tt
+halts_short HaltFault (Some Failed) = tt
+halts_short HaltFault (Some NoRoom) = tt
+halts_short HaltMemory None = tt
+halts_short HaltMemory (Some Failed) = tt
+halts_short HaltMemory (Some NoRoom) = tt
+
+answered_halted : {L : Type 0} → (asks came idle : ℕ) (cut : Option (Cut L)) (halt : Halt) (lost : Option LinkFault) → (asks ≡ came + idle) ⊎ ((asks ≡ came + idle + 1) × (cut ≡ None))
+    → AreAnswered asks came idle cut (halt_end halt lost)
+answered_halted asks came idle cut halt lost (inl e) = inl e
+answered_halted asks came idle cut halt lost (inr e) = inr (e.0, e.1, halts_short halt lost)
+
 rose_from : (n a b c : ℕ) → a ≤ b → RoseBy n b c → RoseBy n a c
 rose_from n a b c later (inl x) = inl (omega (arith, later, x))
 rose_from n a b c later (inr x) = inr x
 
-module _ {L C N : Type 0} (works : SessionJob L C N → SessionEnd L C N → Type 0) (begins : Option (List ℕ) → ℕ → N → Type 0) where
+module _ {L C N : Type 0} (works : SessionJob L C N → SessionEnd L C N → Type 0) (begins : Option (List ℕ) → ℕ → N → Type 0) (talk : L → Option (List Said)) where
   -- all arrived, all sessions ended and were taken in, and the hub was stopped
   pub serves_whole : (h : Hub) (terms : Terms) (w m : ServeWorld L C N) (q : Pass) (u : ℕ) (r : Result (Told Counts) AlreadyStopped)
-      (lost : Option LinkFault) (held held' : Option (List ℕ)) → ((s : ℕ) → terms.sessions ≡ Some s → s < 2 ^ 64) → w.out ≡ [] → Taken works begins h terms w m (record { remaining = Some 0; unstarted = u })
+      (lost : Option LinkFault) (held held' : Option (List ℕ)) → ((s : ℕ) → terms.sessions ≡ Some s → s < 2 ^ 64) → w.out ≡ [] → Taken works begins talk h terms w m (record { remaining = Some 0; unstarted = u })
       → m.out ≡ [] → Stopped h m.pass q r → Records held held' (stop_notes (number_of m.pass) r) lost
-      → HasLine (stop_notes (number_of m.pass) r) lost → Serving works begins terms (served_world h held w) (served_world h held' (record m { pass = q })) (whole_end u r lost)
+      → HasLine (stop_notes (number_of m.pass) r) lost → Serving works begins talk terms (served_world h held w) (served_world h held' (record m { pass = q })) (whole_end u r lost)
   serves_whole h terms w m q u r lost held held' fits none_before t none s noted line =
       let n = length (links_of t.events) in
       let all : n ≡ n + 0 = omega arith in
@@ -206,14 +223,19 @@ module _ {L C N : Type 0} (works : SessionJob L C N → SessionEnd L C N → Typ
         late = [];
         lost = lost;
         cut_last = tt;
+        cut_so = tt;
         hub = refl;
         left = subst (λ xs. Loses w.links m.links xs) (sym (append-nil (links_of t.events))) t.left;
         came = subst (λ xs. Grows w.came m.came xs) (sym (append-nil (links_of t.events))) t.came;
         within = within_whole terms.sessions n t.remains;
         asks = t.asks;
         asked = t.asked;
+        idle = t.idle;
+        quiet = t.quiet;
+        answered = inl (let k = t.answered in omega (arith, k));
+        begun = subst (λ (xs : List Begun). Grows w.begun m.begun xs) (sym (append-nil (begun_of terms.prefix t.events))) t.begun;
         jobs = t.jobs;
-        fates = fates_later begins h terms w.pass m.pass q t.events s.passed.grows (stays_stopped h m.pass q r s) t.fates;
+        fates = fates_later begins talk h terms w.pass m.pass q t.events s.passed.grows (stays_stopped h m.pass q r s) t.fates;
         returned = t.returned;
         out = subst (λ (o : List (SessionJob L C N)). OutAfter works [] t.events o) none t.out;
         late_out = refl;
@@ -235,9 +257,9 @@ module _ {L C N : Type 0} (works : SessionJob L C N → SessionEnd L C N → Typ
 
   -- the loop halted, the hub was stopped, and the sessions ended and were taken in
   pub serves_halted : (h : Hub) (terms : Terms) (w m : ServeWorld L C N) (v q : Pass) (s : Stock L C N) (halt : Halt)
-      (r : Result (Told Counts) AlreadyStopped) (lost : Option LinkFault) (held held' : Option (List ℕ)) → w.out ≡ [] → Halted works begins h terms w m halt → Stopped h m.pass v r
+      (r : Result (Told Counts) AlreadyStopped) (lost : Option LinkFault) (held held' : Option (List ℕ)) → w.out ≡ [] → Halted works begins talk h terms w m halt → Stopped h m.pass v r
       → TakesIn works h v (stock_of m) q s → s.out ≡ [] → Records held held' (stop_notes (number_of m.pass) r) lost
-      → HasLine (stop_notes (number_of m.pass) r) lost → Serving works begins terms (served_world h held w) (served_world h held' (world_of q s m.links m.came m.waits)) (halt_end halt lost)
+      → HasLine (stop_notes (number_of m.pass) r) lost → Serving works begins talk terms (served_world h held w) (served_world h held' (world_of q s m)) (halt_end halt lost)
   serves_halted h terms w m v q s halt r lost held held' none_before t stopped x none noted line =
       let n = length (links_of t.events) + length (cut_links t.cut) in
       let took : List EndedCaller = callers_of t.events ++ cut_callers t.cut in
@@ -251,14 +273,19 @@ module _ {L C N : Type 0} (works : SessionJob L C N → SessionEnd L C N → Typ
         late = x.late;
         lost = lost;
         cut_last = cut_by t.cut halt lost t.cut_last;
+        cut_so = t.cut_so;
         hub = refl;
         left = t.left;
         came = t.came;
         within = t.within;
         asks = t.asks;
         asked = t.asked;
+        idle = t.idle;
+        quiet = t.quiet;
+        answered = answered_halted t.asks n t.idle t.cut halt lost t.answered;
+        begun = t.begun;
         jobs = grows_still w.jobs m.jobs s.jobs (jobs_of t.events) t.jobs x.jobs;
-        fates = fates_later begins h terms w.pass m.pass q t.events (starts_then (seen m.pass) (seen v) (seen q) stopped.passed.grows x.went.grows)
+        fates = fates_later begins talk h terms w.pass m.pass q t.events (starts_then (seen m.pass) (seen v) (seen q) stopped.passed.grows x.went.grows)
             (λ e. x.loaded ∙ stays_stopped h m.pass v r stopped e) t.fates;
         returned = rose_later (returned_of t.events) w.unstarted m.unstarted s.unstarted t.returned x.later;
         out = t.out;
@@ -281,7 +308,7 @@ module _ {L C N : Type 0} (works : SessionJob L C N → SessionEnd L C N → Typ
 
   -- what the spawner had out before was awaited at first
   pub serves_after : (h : Hub) (terms : Terms) (w v : ServeWorld L C N) (s : Stock L C N) (held held' : Option (List ℕ)) (end : ServeEnd) → Stays w.jobs s.jobs → GaveBack w.out s.out w.given_back s.given_back
-      → w.unstarted ≤ s.unstarted → Serving works begins terms (served_world h held (world_of w.pass s w.links w.came w.waits)) (served_world h held' v) end → Serving works begins terms (served_world h held w) (served_world h held' v) end
+      → w.unstarted ≤ s.unstarted → Serving works begins talk terms (served_world h held (world_of w.pass s w)) (served_world h held' v) end → Serving works begins talk terms (served_world h held w) (served_world h held' v) end
   serves_after h terms w v s held held' end stays gave later t = record {
     events = t.events;
     cut = t.cut;
@@ -291,12 +318,17 @@ module _ {L C N : Type 0} (works : SessionJob L C N → SessionEnd L C N → Typ
     late = t.late;
     lost = t.lost;
     cut_last = t.cut_last;
+    cut_so = t.cut_so;
     hub = t.hub;
     left = t.left;
     came = t.came;
     within = t.within;
     asks = t.asks;
     asked = t.asked;
+    idle = t.idle;
+    quiet = t.quiet;
+    answered = t.answered;
+    begun = t.begun;
     jobs = grows_from w.jobs s.jobs v.jobs (jobs_of t.events) stays t.jobs;
     fates = t.fates;
     returned = rose_from (returned_of t.events) w.unstarted s.unstarted v.unstarted later t.returned;

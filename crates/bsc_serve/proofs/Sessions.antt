@@ -1,6 +1,6 @@
 -- Sessions that have ended: their callers are taken in, and all that these entered stands before the Stop.
 use Rattle.std.proofs.Common.{inl, inr, ◌≡◌, ℕ, ◌+◌, ◌≤◌, List, [], ◌∷◌, ◌++◌, length, take, Option, None, Ok, Err, refl, ap, sym, ◌∙◌, subst, arith, append_assoc, append-nil}
-use Rattle.std.specs.Prelude.{◌≢◌, ◌⊎◌, Result}
+use Rattle.std.specs.Prelude.{◌≢◌, ◌⊎◌, Result, map, true}
 use Rattle.std.proofs.lemmas.List.{length-map, map-append, take_at}
 use mathlib.Core.Option.{some}
 use lib.ListN.{get_elem?}
@@ -31,7 +31,7 @@ use Rattle.bsc_edge.proofs.Common.{grows_then, stays_then}
 use Rattle.bsc_session.specs.declared.job.SessionJob.{SessionJob}
 use Rattle.bsc_session.specs.declared.session_end.SessionEnd.{SessionEnd}
 use Rattle.bsc_session.specs.Jobs.{Worked}
-use Rattle.bsc_serve.specs.Events.{AllStand, Event, OutAfter, arrived, callers_of, ended, ends_of, jobs_of, links_of, numbers_of, returned_of, unstarted_of}
+use Rattle.bsc_serve.specs.Events.{AllStand, Event, OutAfter, arrived, begun_call, callers_of, ended, ends_of, jobs_of, links_of, numbers_of, returned_of, unstarted_of}
 use Rattle.bsc_serve.specs.Fates.{caller_in}
 use Rattle.bsc_serve.specs.Inner.{AllEnded, AllOurs, GoesOn, IsOurEnd, IsOurs, TakesIn, limit_of}
 use Rattle.bsc_serve.specs.Serving.{Loses, RoseBy}
@@ -55,7 +55,7 @@ drawn_same : (h : Hub) (w p q : Pass) → newest_number q ≡ newest_number p �
 drawn_same h w p q e (inl x) = inl (omega (arith, e, x))
 drawn_same h w p q e (inr x) = inr (e ∙ x)
 
-module _ {L C N : Type 0} (works : SessionJob L C N → SessionEnd L C N → Type 0) (begins : Option (List ℕ) → ℕ → N → Type 0) where
+module _ {L C N : Type 0} (works : SessionJob L C N → SessionEnd L C N → Type 0) (begins : Option (List ℕ) → ℕ → N → Type 0) (talk : L → Option (List Said)) where
   pub ours_ended : (h : Hub) (old new : List (SessionJob L C N)) (d : SessionEnd L C N) (e : Ends works old new d) → AllOurs h old → IsOurs h e.job
   ours_ended h old new d e ours = (ours_split h e.before e.job e.behind (subst (λ (o : List (SessionJob L C N)). AllOurs h o) e.was ours)).0
 
@@ -67,8 +67,8 @@ module _ {L C N : Type 0} (works : SessionJob L C N → SessionEnd L C N → Typ
   -- a session has ended, and its caller was taken in
   pub goes_one : (h : Hub) (p q : Pass) (s t : Stock L C N) (d : SessionEnd L C N) (e : Ends works s.out t.out d) → IsOurEnd h e.job d
       → Passed h p (ended_of (view_of d.pass) ∷ []) None q → newest_number q ≡ newest_number p → Stays s.jobs t.jobs
-      → Grows s.given_back t.given_back (d ∷ []) → s.unstarted ≤ t.unstarted → GoesOn works begins h p s q t
-  goes_one h p q s t d e is went loaded stays grew later terms first links came waits tally taken =
+      → Grows s.given_back t.given_back (d ∷ []) → s.unstarted ≤ t.unstarted → GoesOn works begins talk h p s q t
+  goes_one h p q s t d e is went loaded stays grew later terms first beside tally taken =
       let a : List (Event L C N) = ended e.job d ∷ [] in
       let more = taken.events in
       let same_links : links_of (more ++ a) ≡ links_of more = links-append more a ∙ append-nil (links_of more) in
@@ -82,15 +82,19 @@ module _ {L C N : Type 0} (works : SessionJob L C N → SessionEnd L C N → Typ
       went_then h first.pass p q (length (links_of more)) 0 (callers_of more) (ended_of (view_of d.pass) ∷ []) None taken.went went in
       record {
         events = more ++ a;
-        left = subst (λ (xs : List L). Loses first.links links xs) (sym same_links) taken.left;
-        came = subst (λ (xs : List L). Grows first.came came xs) (sym same_links) taken.came;
+        left = subst (λ (xs : List L). Loses first.links beside.links xs) (sym same_links) taken.left;
+        came = subst (λ (xs : List L). Grows first.came beside.came xs) (sym same_links) taken.came;
         asks = taken.asks;
         asked = taken.asked;
+        idle = taken.idle;
+        quiet = taken.quiet;
+        answered = (let k = taken.answered in omega (arith, k, many));
+        begun = subst (λ (xs : List ℕ). Grows first.begun beside.begun (map (begun_call terms.prefix true) xs)) (sym (numbers-append more a ∙ append-nil (numbers_of more))) taken.begun;
         jobs = grows_still first.jobs s.jobs t.jobs (jobs_of (more ++ a))
             (subst (λ (xs : List (SessionJob L C N)). Grows first.jobs s.jobs xs) (sym same_jobs) taken.jobs) stays;
         given_back = subst (λ (xs : List (SessionEnd L C N)). Grows first.given_back t.given_back xs) (sym (ends-append more a))
             (grows_then first.given_back s.given_back t.given_back (ends_of more) (d ∷ []) taken.given_back grew);
-        fates = fates_then begins h terms first.pass q more a (fates_later begins h terms first.pass p q more went.grows (λ x. loaded ∙ x) taken.fates) tt;
+        fates = fates_then begins talk h terms first.pass q more a (fates_later begins talk h terms first.pass p q more went.grows (λ x. loaded ∙ x) taken.fates) tt;
         returned = subst (λ k. RoseBy k first.unstarted t.unstarted) (sym back)
             (rose_later (returned_of more) first.unstarted s.unstarted t.unstarted taken.returned later);
         out = out_then works [] s.out t.out more a taken.out (e.before, e.behind, e.was, e.worked, e.left);
@@ -106,13 +110,17 @@ module _ {L C N : Type 0} (works : SessionJob L C N → SessionEnd L C N → Typ
       }
 
   -- none has ended
-  pub goes_none : (h : Hub) (p : Pass) (s t : Stock L C N) → t.out ≡ s.out → Stays s.jobs t.jobs → Grows s.given_back t.given_back [] → s.unstarted ≤ t.unstarted → GoesOn works begins h p s p t
-  goes_none h p s t same stays grew later terms first links came waits tally taken = record {
+  pub goes_none : (h : Hub) (p : Pass) (s t : Stock L C N) → t.out ≡ s.out → Stays s.jobs t.jobs → Grows s.given_back t.given_back [] → s.unstarted ≤ t.unstarted → GoesOn works begins talk h p s p t
+  goes_none h p s t same stays grew later terms first beside tally taken = record {
     events = taken.events;
     left = taken.left;
     came = taken.came;
     asks = taken.asks;
     asked = taken.asked;
+    idle = taken.idle;
+    quiet = taken.quiet;
+    answered = taken.answered;
+    begun = taken.begun;
     jobs = grows_still first.jobs s.jobs t.jobs (jobs_of taken.events) taken.jobs stays;
     given_back = grows_no_more first.given_back s.given_back t.given_back (ends_of taken.events) taken.given_back grew;
     fates = taken.fates;
@@ -127,8 +135,8 @@ module _ {L C N : Type 0} (works : SessionJob L C N → SessionEnd L C N → Typ
     counted = taken.counted;
   }
 
-  pub goes_then : (h : Hub) (p m q : Pass) (s t u : Stock L C N) → GoesOn works begins h p s m t → GoesOn works begins h m t q u → GoesOn works begins h p s q u
-  goes_then h p m q s t u a b terms first links came waits tally taken = b terms first links came waits tally (a terms first links came waits tally taken)
+  pub goes_then : (h : Hub) (p m q : Pass) (s t u : Stock L C N) → GoesOn works begins talk h p s m t → GoesOn works begins talk h m t q u → GoesOn works begins talk h p s q u
+  goes_then h p m q s t u a b terms first beside tally taken = b terms first beside tally (a terms first beside tally taken)
 
 both_empty : {A : Type 0} → (xs ys : List A) → xs ++ ys ≡ [] → (xs ≡ []) × (ys ≡ [])
 both_empty [] ys e = (refl, e)

@@ -17,6 +17,7 @@ use Rattle.bsc_turn.specs.Passes.{number_of, own_list, seen}
 use Rattle.bsc_hub.specs.Calls.{stop_made}
 use Rattle.bsc_hub.specs.Passing.{found_history}
 use Rattle.bsc_hub.specs.Whole.{EachIsOf, IsFirst}
+use Rattle.bsc_edge.specs.declared.said.Said.{Said}
 use Rattle.bsc_session.specs.declared.job.SessionJob.{SessionJob}
 use Rattle.bsc_session.specs.declared.session_end.SessionEnd.{SessionEnd}
 use Rattle.bsc_serve.specs.declared.end.ServeEnd.{ServeEnd}
@@ -50,49 +51,49 @@ module _ {L C N : Type 0} (works : SessionJob L C N → SessionEnd L C N → Typ
   HasEndedAtLast H q j = (d : SessionEnd L C N) × works j d × (own (entries (seen q)) (number_of j.pass) ≡ own_list d.pass) × StartsWith (seen q) (seen d.pass)
       × ((behind : List Entry) × (own_list d.pass ≡ own H (number_of j.pass) ++ behind))
 
-module _ {L C N : Type 0} (works : SessionJob L C N → SessionEnd L C N → Type 0) (begins : Option (List ℕ) → ℕ → N → Type 0) where
+module _ {L C N : Type 0} (works : SessionJob L C N → SessionEnd L C N → Type 0) (begins : Option (List ℕ) → ℕ → N → Type 0) (talk : L → Option (List Said)) where
   -- Where a hub's first pass served it, nobody else called it: each entry that the pass has at last seen is of its own caller, or of
   -- one that it took in, before it stopped the hub or after.
   abbrev pub ServingIsAlone : Type 0
   ServingIsAlone = (terms : Terms) (before after : ServedWorld L C N) (end : ServeEnd) → IsFirst before.beside.pass
-      → (s : Serving works begins terms before after end) → EachIsOf ((callers_of s.events ++ cut_callers s.cut) ++ callers_of s.late) after.beside.pass
+      → (s : Serving works begins talk terms before after end) → EachIsOf ((callers_of s.events ++ cut_callers s.cut) ++ callers_of s.late) after.beside.pass
 
   -- Then each of these entries, before the Stop and behind it, is of its own caller, or of the pass of a job that the spawner took:
   -- the jobs that came back made none.
   abbrev pub SeenAreOfJobs : Type 0
   SeenAreOfJobs = (terms : Terms) (before after : ServedWorld L C N) (end : ServeEnd) → IsFirst before.beside.pass
-      → (s : Serving works begins terms before after end) → (earlier later : List Entry) (e : Entry)
+      → (s : Serving works begins talk terms before after end) → (earlier later : List Entry) (e : Entry)
       → entries (seen after.beside.pass) ≡ earlier ++ e ∷ later → (number_of after.beside.pass ≡ e.caller) ⊎ IsOfJob (jobs_of s.events) e.caller
 
   -- Where the own pass had made none before, each of these entries is the Stop or of the pass of a job that the spawner took.
   abbrev pub AllButStopAreOfJobs : Type 0
   AllButStopAreOfJobs = (terms : Terms) (before after : ServedWorld L C N) (end : ServeEnd) → IsFirst before.beside.pass → own_list before.beside.pass ≡ []
-      → (s : Serving works begins terms before after end) → (earlier later : List Entry) (e : Entry)
+      → (s : Serving works begins talk terms before after end) → (earlier later : List Entry) (e : Entry)
       → entries (seen after.beside.pass) ≡ earlier ++ e ∷ later → (e.call ≡ Stop) ⊎ IsOfJob (jobs_of s.events) e.caller
 
   -- And each entry that stands before the Stop is of the pass of a job that the spawner took: the hub's own pass made none before
   -- it.
   abbrev pub EntriesAreOfJobs : Type 0
   EntriesAreOfJobs = (terms : Terms) (before after : ServedWorld L C N) (end : ServeEnd) → IsFirst before.beside.pass → own_list before.beside.pass ≡ []
-      → (s : Serving works begins terms before after end) → (earlier later : List Entry) (e : Entry)
+      → (s : Serving works begins talk terms before after end) → (earlier later : List Entry) (e : Entry)
       → found_history (stop_made (number_of before.beside.pass) s.stop) after.beside.pass ≡ earlier ++ e ∷ later → IsOfJob (jobs_of s.events) e.caller
 
   -- Each job that the spawner took has ended at last, and what is left of it stands in what the pass has seen.
   abbrev pub JobsEndAtLast : Type 0
-  JobsEndAtLast = (terms : Terms) (before after : ServedWorld L C N) (end : ServeEnd) → (s : Serving works begins terms before after end)
+  JobsEndAtLast = (terms : Terms) (before after : ServedWorld L C N) (end : ServeEnd) → (s : Serving works begins talk terms before after end)
       → AllByRecursion (HasEndedAtLast works (found_history (stop_made (number_of before.beside.pass) s.stop) after.beside.pass) after.beside.pass) (jobs_of s.events)
 
   -- Where no job was out when the hub was stopped, all that is left of it stands before the Stop.
   abbrev pub JobsHaveEnded : Type 0
-  JobsHaveEnded = (terms : Terms) (before after : ServedWorld L C N) (end : ServeEnd) → (s : Serving works begins terms before after end) → s.still ≡ []
+  JobsHaveEnded = (terms : Terms) (before after : ServedWorld L C N) (end : ServeEnd) → (s : Serving works begins talk terms before after end) → s.still ≡ []
       → AllByRecursion (HasEnded works (found_history (stop_made (number_of before.beside.pass) s.stop) after.beside.pass) after.beside.pass) (jobs_of s.events)
 
   -- In all that the pass has at last seen, an entry behind a Stop joins nobody and forwards nothing.
   abbrev pub NothingBehindStop : Type 0
-  NothingBehindStop = (terms : Terms) (before after : ServedWorld L C N) (end : ServeEnd) → (s : Serving works begins terms before after end)
+  NothingBehindStop = (terms : Terms) (before after : ServedWorld L C N) (end : ServeEnd) → (s : Serving works begins talk terms before after end)
       → (earlier later : List Entry) (e : Entry) → entries (seen after.beside.pass) ≡ earlier ++ e ∷ later → is_stopped earlier ≡ true → IsToldStopped e.call e.reply
 
   -- No two jobs have passes of one number.
   abbrev pub JobsAreApart : Type 0
-  JobsAreApart = (terms : Terms) (before after : ServedWorld L C N) (end : ServeEnd) → (s : Serving works begins terms before after end)
+  JobsAreApart = (terms : Terms) (before after : ServedWorld L C N) (end : ServeEnd) → (s : Serving works begins talk terms before after end)
       → Apart (λ (j : SessionJob L C N). number_of j.pass) (jobs_of s.events)

@@ -1,5 +1,5 @@
 -- What happens while a hub is served, in order.
-use Rattle.std.specs.Prelude.{◌≡◌, ℕ, ◌+◌, List, [], ◌∷◌, ◌++◌, length, Option, ⊤}
+use Rattle.std.specs.Prelude.{◌≡◌, ℕ, ◌+◌, Bool, true, List, [], ◌∷◌, ◌++◌, length, map, Option, ⊤}
 use Rattle.bsc_history.specs.declared.entry.Entry.{Entry}
 use Rattle.bsc_history.specs.Entries.{own}
 use Rattle.bsc_turn.specs.declared.pass.Pass.{Pass}
@@ -7,10 +7,16 @@ use Rattle.bsc_turn.specs.declared.view.Ended.{Ended as EndedCaller}
 use Rattle.bsc_turn.specs.Effects.{ended_of}
 use Rattle.bsc_turn.specs.Passes.{number_of, own_list, view_of}
 use Rattle.bsc_hub.specs.declared.hub.Hub.{Hub}
+use Rattle.bsc_edge.specs.declared.begun.Begun.{Begun}
+use Rattle.bsc_edge.specs.declared.said.Said.{Said}
 use Rattle.bsc_session.specs.declared.job.SessionJob.{SessionJob}
 use Rattle.bsc_session.specs.declared.session_end.SessionEnd.{SessionEnd}
 use Rattle.bsc_serve.specs.Fates.{Fate, IsFate, caller_in, job_in, returned, spent, started, unstarted_in}
 use Rattle.bsc_serve.specs.Terms.{Terms}
+
+-- A call that was to begin a journal under this prefix and with this number, and whether one came.
+abbrev pub begun_call : Option (List ℕ) → Bool → ℕ → Begun
+begun_call prefix came n = record { prefix = prefix; number = n; came = came }
 
 -- A link left the acceptor, and this became of it; or a job that was out has ended, and this was left of it.
 pub data Event (L C N : Type 0) : Type 0 where
@@ -54,6 +60,10 @@ module _ {L C N : Type 0} where
   numbers_of (arrived l f ∷ more) = numbers_in f ++ numbers_of more
   numbers_of (ended j d ∷ more) = numbers_of more
 
+  -- The calls that began a journal, in order: one for each of these numbers, and each came.
+  abbrev pub begun_of : Option (List ℕ) → List (Event L C N) → List Begun
+  begun_of prefix events = map (begun_call prefix true) (numbers_of events)
+
   -- How many jobs came back.
   abbrev pub returned_of : List (Event L C N) → ℕ
   returned_of [] = 0
@@ -82,9 +92,9 @@ module _ {L C N : Type 0} where
       (before : List (SessionJob L C N)) × (behind : List (SessionJob L C N))
       × (out ≡ before ++ j ∷ behind) × works j d × OutAfter works (before ++ behind) more still
 
-module _ {L C N : Type 0} (begins : Option (List ℕ) → ℕ → N → Type 0) where
+module _ {L C N : Type 0} (begins : Option (List ℕ) → ℕ → N → Type 0) (talk : L → Option (List Said)) where
   -- What became of each link is as it may be, in a call that had the hub's own pass as p and left it as q.
   abbrev pub AreFates : Hub → Terms → Pass → Pass → List (Event L C N) → Type 0
   AreFates h terms p q [] = ⊤
-  AreFates h terms p q (arrived l f ∷ more) = IsFate begins h terms p q l f × AreFates h terms p q more
+  AreFates h terms p q (arrived l f ∷ more) = IsFate begins talk h terms p q l f × AreFates h terms p q more
   AreFates h terms p q (ended j d ∷ more) = AreFates h terms p q more

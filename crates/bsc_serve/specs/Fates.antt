@@ -7,6 +7,9 @@ use Rattle.bsc_turn.specs.Histories.{StartsWith}
 use Rattle.bsc_turn.specs.Passes.{ended_callers, loads_made, newest_number, number_of, own_list, seen}
 use Rattle.bsc_hub.specs.declared.hub.Hub.{Hub}
 use Rattle.bsc_hub.specs.Passing.{IsCaller, about_of}
+use Rattle.bsc_edge.specs.declared.said.Said.{Said}
+use Rattle.bsc_edge.specs.declared.said.Said.TheVariants.{Closed}
+use Rattle.bsc_edge.specs.Told.{Grows}
 use Rattle.bsc_session.specs.declared.job.SessionJob.{SessionJob}
 use Rattle.bsc_session.specs.Jobs.{policy_of}
 use Rattle.bsc_serve.specs.Terms.{Terms}
@@ -39,12 +42,14 @@ unstarted_in (returned e) = 1
 unstarted_in spent = 1
 
 -- The pass x was split in a call that had the hub's own pass as p and left it as q: its caller is new, has no entries and
--- asked for no number, its own is one that was drawn in this call, and what it has seen lies between what p and q had.
+-- asked for no number, its own is one that was drawn in this call, and below the number of callers that there may be; and what
+-- it has seen lies between what p and q had.
 pub record IsSplitIn (h : Hub) (p q x : Pass) : Type 0 where
   pub caller : IsCaller h x
   pub new : (own_list x ≡ []) × (ended_callers x ≡ []) × (loads_made x ≡ 0)
   pub number : number_of p < number_of x
   pub drawn : newest_number p < number_of x
+  pub room : number_of x < (about_of h).limits.callers
   pub since : StartsWith (seen x) (seen p)
   pub by : StartsWith (seen q) (seen x)
 
@@ -63,9 +68,16 @@ module _ {L C N : Type 0} (begins : Option (List ℕ) → ℕ → N → Type 0) 
     pub is_recorded : j.is_recorded ≡ is_some terms.prefix
     pub policy : policy_of j.policy ≡ terms.policy
 
+-- A link that gets no job was closed with 1001, with no reason, and nothing else was said on it, as far as it tells.
+pub record IsTurnedAway {L : Type 0} (talk : L → Option (List Said)) (l : L) : Type 0 where
+  pub left : L
+  pub closed : Grows (talk l) (talk left) (Closed 1001 [] ∷ [])
+
+-- Where `talk` says what was said on a link.
+module _ {L C N : Type 0} (begins : Option (List ℕ) → ℕ → N → Type 0) (talk : L → Option (List Said)) where
   -- What became of a link as it may be: its job is one of this call; or the caller whose pass came back was unused; or all
-  -- numbers are drawn.
+  -- numbers are drawn. In the last two cases it was turned away.
   abbrev pub IsFate : Hub → Terms → Pass → Pass → L → Fate (SessionJob L C N) → Type 0
-  IsFate h terms p q l (started j) = IsJobOf h terms p q l j
-  IsFate h terms p q l (returned e) = IsUnused e
-  IsFate h terms p q l spent = newest_number q ≡ (about_of h).limits.callers
+  IsFate h terms p q l (started j) = IsJobOf begins h terms p q l j
+  IsFate h terms p q l (returned e) = IsUnused e × IsTurnedAway talk l
+  IsFate h terms p q l spent = (newest_number q ≡ (about_of h).limits.callers) × IsTurnedAway talk l

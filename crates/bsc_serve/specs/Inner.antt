@@ -1,5 +1,5 @@
 -- What the inner functions of serving say of each other; no public clause cites any of it.
-use Rattle.std.specs.Prelude.{◌≡◌, ◌≢◌, ℕ, ◌≤◌, ◌+◌, ◌⊎◌, Bool, true, false, ◌<◌, List, [], ◌∷◌, ◌++◌, length, position, replicate, Option, Some, None, Result}
+use Rattle.std.specs.Prelude.{◌≡◌, ◌≢◌, ℕ, ◌≤◌, ◌+◌, ◌⊎◌, Bool, true, false, ◌<◌, List, [], ◌∷◌, ◌++◌, length, map, position, replicate, Option, Some, None, Result}
 use Rattle.std.specs.Prelude.{Ok, Err, IfErr, IfOk, IsErr, IsTrue, ◌↔◌, ⊤}
 use Rattle.std.specs.Arc.{arc_value}
 use Rattle.bsc_history.specs.declared.counts.Counts.{Counts}
@@ -17,8 +17,10 @@ use Rattle.bsc_hub.specs.declared.hub.Hub.{Hub}
 use Rattle.bsc_hub.specs.Calls.{stop_made}
 use Rattle.bsc_hub.specs.Passing.{IsCaller, Passed, Went, about_of, found_history}
 use Rattle.bsc_outside.specs.Faults.{HasRisen}
+use Rattle.bsc_edge.specs.declared.begun.Begun.{Begun}
 use Rattle.bsc_edge.specs.declared.fault.LinkFault.{LinkFault}
 use Rattle.bsc_edge.specs.declared.fault.LinkFault.TheVariants.{Failed as FaultFailed, NoMemory as FaultMemory}
+use Rattle.bsc_edge.specs.declared.said.Said.{Said}
 use Rattle.bsc_edge.specs.Told.{Grows, Stays}
 use Rattle.bsc_serve.specs.declared.bounds.TheConstants.{WAIT_MS}
 use Rattle.bsc_serve.specs.declared.halt.Halt.{Halt}
@@ -27,11 +29,11 @@ use Rattle.bsc_serve.specs.declared.end.ServeEnd.{ServeEnd}
 use Rattle.bsc_serve.specs.declared.end.ServeEnd.TheVariants.{Done, StoppedBefore, AcceptFault, JournalFault, NoMemory}
 use Rattle.bsc_session.specs.declared.job.SessionJob.{SessionJob}
 use Rattle.bsc_session.specs.declared.session_end.SessionEnd.{SessionEnd}
-use Rattle.bsc_serve.specs.Events.{AreFates, Event, OutAfter, arrived, callers_of, ended, ends_of, jobs_of, links_of, numbers_in, numbers_of, returned_of, unstarted_of}
-use Rattle.bsc_serve.specs.Fates.{Fate, IsFate, IsUnused, caller_in, job_in, returned, spent, started, unstarted_in}
+use Rattle.bsc_serve.specs.Events.{AreFates, Event, OutAfter, arrived, begun_call, begun_of, callers_of, ended, ends_of, jobs_of, links_of, numbers_in, numbers_of, returned_of, unstarted_of}
+use Rattle.bsc_serve.specs.Fates.{Fate, IsFate, IsTurnedAway, IsUnused, caller_in, job_in, returned, spent, started, unstarted_in}
 use Rattle.bsc_serve.specs.declared.tally.Tally.{Tally}
 use Rattle.bsc_serve.specs.Tallies.{CountsUp, Remains, one_unless}
-use Rattle.bsc_serve.specs.Serving.{Cut, IsWithin, Loses, RoseBy, cut_callers, cut_links, cut_numbers}
+use Rattle.bsc_serve.specs.Serving.{Cut, CutSo, IsWithin, Loses, RoseBy, cut_begun, cut_callers, cut_links, cut_numbers}
 use Rattle.bsc_serve.specs.Terms.{Terms}
 use Rattle.bsc_serve.specs.Worlds.{ServeWorld, Stock}
 
@@ -99,43 +101,53 @@ pub record GaveBack {J D : Type 0} (out still : List J) (before after : Option (
   pub one_each : length ends + length still ≡ length out
   pub given_back : Grows before after ends
 
--- What gives a link its session: the hub's own pass, and what is seen of the spawner.
+-- What gives a link its session: the hub's own pass, what is seen of the spawner, and the calls that began a journal.
 pub record Giver (L C N : Type 0) : Type 0 where
   pub pass : Pass
   pub stock : Stock L C N
+  pub begun : Option (List Begun)
 
 module _ {L C N : Type 0} where
-  abbrev pub giver : Pass → Stock L C N → Giver L C N
-  giver pass stock = record { pass = pass; stock = stock }
+  abbrev pub giver : Pass → Stock L C N → Option (List Begun) → Giver L C N
+  giver pass stock begun = record { pass = pass; stock = stock; begun = begun }
 
   abbrev pub stock_of : ServeWorld L C N → Stock L C N
   stock_of w = record { jobs = w.jobs; given_back = w.given_back; out = w.out; unstarted = w.unstarted }
 
-  -- the world with this pass and this of the spawner, and these links, that are left and that came, and waits
-  abbrev pub world_of : Pass → Stock L C N → Option (List L) → Option (List L) → Option (List ℕ) → ServeWorld L C N
-  world_of p s links came waits = record {
+  -- the world with this pass and this of the spawner, and all else as there
+  abbrev pub world_of : Pass → Stock L C N → ServeWorld L C N → ServeWorld L C N
+  world_of p s w = record w {
     pass = p;
-    links = links;
-    came = came;
-    waits = waits;
     jobs = s.jobs;
     given_back = s.given_back;
     out = s.out;
     unstarted = s.unstarted;
   }
 
-  -- Its job couldn't be made.
-  pub record LacksRoom (h : Hub) (p q : Pass) (s t : Stock L C N) : Type 0 where
+-- A link whose job wasn't started was turned away.
+abbrev pub TurnsAway : {L : Type 0} → (L → Option (List Said)) → L → Result Bool LinkFault → Type 0
+TurnsAway talk l (Ok true) = ⊤
+TurnsAway talk l (Ok false) = IsTurnedAway talk l
+TurnsAway talk l (Err fault) = IsTurnedAway talk l
+
+module _ {L C N : Type 0} (talk : L → Option (List Said)) where
+  -- The job of a link couldn't be made, under this fault.
+  pub record LacksRoom (h : Hub) (prefix : Option (List ℕ)) (l : L) (before after : Giver L C N) (fault : LinkFault) : Type 0 where
     pub caller : EndedCaller
     pub unused : IsUnused caller
-    pub jobs : Grows s.jobs t.jobs []
-    pub given_back : Stays s.given_back t.given_back
-    pub out : t.out ≡ s.out
-    pub went : Went h p 1 (caller ∷ []) None q
-    pub draws : Draws h p q
-    pub drew : drawn_list q ≡ drawn_list p ++ caller.number ∷ []
-    pub later : s.unstarted ≤ t.unstarted
+    pub jobs : Grows before.stock.jobs after.stock.jobs []
+    pub given_back : Stays before.stock.given_back after.stock.given_back
+    pub out : after.stock.out ≡ before.stock.out
+    pub went : Went h before.pass 1 (caller ∷ []) None after.pass
+    pub draws : Draws h before.pass after.pass
+    pub drew : drawn_list after.pass ≡ drawn_list before.pass ++ caller.number ∷ []
+    pub later : before.stock.unstarted ≤ after.stock.unstarted
+    pub came : Bool
+    pub begun : Grows before.begun after.begun (begun_call prefix came caller.number ∷ [])
+    pub none : fault ≡ FaultFailed → came ≡ false
+    pub turned : IsTurnedAway talk l
 
+module _ {L C N : Type 0} where
   -- A job was handed over, or it came back and its pass was joined.
   abbrev pub HandsOver : Hub → Pass → Pass → SessionJob L C N → Stock L C N → Stock L C N → Result Bool LinkFault → Type 0
   HandsOver h m q job s t (Ok true) =
@@ -145,11 +157,11 @@ module _ {L C N : Type 0} where
   HandsOver h m q job s t (Err e) =
       Grows s.jobs t.jobs [] × (t.out ≡ s.out) × (s.unstarted ≤ t.unstarted) × TakesBack h m q job.pass × Stays s.given_back t.given_back
 
-module _ {L C N : Type 0} (begins : Option (List ℕ) → ℕ → N → Type 0) where
+module _ {L C N : Type 0} (begins : Option (List ℕ) → ℕ → N → Type 0) (talk : L → Option (List Said)) where
   -- What became of one link.
   pub record Fared (h : Hub) (terms : Terms) (x : L) (before after : Giver L C N) (is_started : Bool) : Type 0 where
     pub fate : Fate (SessionJob L C N)
-    pub is : IsFate begins h terms before.pass after.pass x fate
+    pub is : IsFate begins talk h terms before.pass after.pass x fate
     pub jobs : Grows before.stock.jobs after.stock.jobs (job_in fate)
     pub given_back : Stays before.stock.given_back after.stock.given_back
     pub out : after.stock.out ≡ before.stock.out ++ job_in fate
@@ -157,11 +169,12 @@ module _ {L C N : Type 0} (begins : Option (List ℕ) → ℕ → N → Type 0) 
     pub draws : DrawsFor h before.pass after.pass fate
     pub drew : drawn_list after.pass ≡ drawn_list before.pass ++ numbers_in fate
     pub rose : RoseBy (length (caller_in fate)) before.stock.unstarted after.stock.unstarted
+    pub begun : Grows before.begun after.begun (map (begun_call terms.prefix true) (numbers_in fate))
     pub counts : unstarted_in fate ≡ one_unless is_started
 
   abbrev pub Fares : Hub → Terms → L → Giver L C N → Giver L C N → Result Bool LinkFault → Type 0
   Fares h terms l before after (Ok is_started) = Fared h terms l before after is_started
-  Fares h terms l before after (Err fault) = LacksRoom h before.pass after.pass before.stock after.stock
+  Fares h terms l before after (Err fault) = LacksRoom talk h terms.prefix l before after fault
 
 module _ {L C N : Type 0} (works : SessionJob L C N → SessionEnd L C N → Type 0) where
   -- From one pass and what is seen of the spawner to another: jobs that were out have ended, in this order, and their callers were
@@ -178,7 +191,7 @@ module _ {L C N : Type 0} (works : SessionJob L C N → SessionEnd L C N → Typ
     pub given_back : Grows s.given_back t.given_back (ends_of late)
     pub later : s.unstarted ≤ t.unstarted
 
-module _ {L C N : Type 0} (works : SessionJob L C N → SessionEnd L C N → Type 0) (begins : Option (List ℕ) → ℕ → N → Type 0) where
+module _ {L C N : Type 0} (works : SessionJob L C N → SessionEnd L C N → Type 0) (begins : Option (List ℕ) → ℕ → N → Type 0) (talk : L → Option (List Said)) where
   -- What has happened, in a loop that began with the world w and stands at v with this tally.
   pub record Taken (h : Hub) (terms : Terms) (w v : ServeWorld L C N) (tally : Tally) : Type 0 where
     pub events : List (Event L C N)
@@ -186,9 +199,13 @@ module _ {L C N : Type 0} (works : SessionJob L C N → SessionEnd L C N → Typ
     pub came : Grows w.came v.came (links_of events)
     pub asks : ℕ
     pub asked : Grows w.waits v.waits (replicate asks WAIT_MS)
+    pub idle : ℕ
+    pub quiet : RoseBy idle w.quiets v.quiets
+    pub answered : asks ≡ length (links_of events) + idle
+    pub begun : Grows w.begun v.begun (begun_of terms.prefix events)
     pub jobs : Grows w.jobs v.jobs (jobs_of events)
     pub given_back : Grows w.given_back v.given_back (ends_of events)
-    pub fates : AreFates begins h terms w.pass v.pass events
+    pub fates : AreFates begins talk h terms w.pass v.pass events
     pub returned : RoseBy (returned_of events) w.unstarted v.unstarted
     pub out : OutAfter works [] events v.out
     pub ours : AllOurs h v.out
@@ -204,14 +221,19 @@ module _ {L C N : Type 0} (works : SessionJob L C N → SessionEnd L C N → Typ
     pub events : List (Event L C N)
     pub cut : Option (Cut L)
     pub cut_last : CutAt cut halt
+    pub cut_so : CutSo talk cut
     pub left : Loses w.links v.links (links_of events ++ cut_links cut)
     pub came : Grows w.came v.came (links_of events ++ cut_links cut)
     pub within : IsWithin terms.sessions (length (links_of events) + length (cut_links cut))
     pub asks : ℕ
     pub asked : Grows w.waits v.waits (replicate asks WAIT_MS)
+    pub idle : ℕ
+    pub quiet : RoseBy idle w.quiets v.quiets
+    pub answered : (asks ≡ length (links_of events) + length (cut_links cut) + idle) ⊎ ((asks ≡ length (links_of events) + length (cut_links cut) + idle + 1) × (cut ≡ None))
+    pub begun : Grows w.begun v.begun (begun_of terms.prefix events ++ cut_begun terms.prefix cut)
     pub jobs : Grows w.jobs v.jobs (jobs_of events)
     pub given_back : Grows w.given_back v.given_back (ends_of events)
-    pub fates : AreFates begins h terms w.pass v.pass events
+    pub fates : AreFates begins talk h terms w.pass v.pass events
     pub returned : RoseBy (returned_of events) w.unstarted v.unstarted
     pub out : OutAfter works [] events v.out
     pub ours : AllOurs h v.out
@@ -232,8 +254,8 @@ module _ {L C N : Type 0} (works : SessionJob L C N → SessionEnd L C N → Typ
   -- From one pass and what is seen of the spawner to another: whatever has happened, it may have so since.
   abbrev pub GoesOn : Hub → Pass → Stock L C N → Pass → Stock L C N → Type 0
   GoesOn h p s q t =
-      (terms : Terms) (first : ServeWorld L C N) (links came : Option (List L)) (waits : Option (List ℕ)) (tally : Tally)
-      → Taken h terms first (world_of p s links came waits) tally → Taken h terms first (world_of q t links came waits) tally
+      (terms : Terms) (first beside : ServeWorld L C N) (tally : Tally)
+      → Taken h terms first (world_of p s beside) tally → Taken h terms first (world_of q t beside) tally
 
 -- What a stop of the hub says, whose pass was m and is q.
 pub record Stopped (h : Hub) (m q : Pass) (r : Result (Told Counts) AlreadyStopped) : Type 0 where

@@ -1,5 +1,5 @@
 -- What serving a hub comes to.
-use Rattle.std.specs.Prelude.{◌≡◌, ℕ, ◌≤◌, ◌+◌, ◌⊎◌, false, List, [], ◌∷◌, ◌++◌, length, position, replicate, take, Option, Some, None, Result, Ok, Err, ⊤}
+use Rattle.std.specs.Prelude.{◌≡◌, ℕ, ◌≤◌, ◌+◌, ◌⊎◌, Bool, false, List, [], ◌∷◌, ◌++◌, length, position, replicate, take, Option, Some, None, Result, Ok, Err, ⊤}
 use Rattle.bsc_history.specs.declared.counts.Counts.{Counts}
 use Rattle.bsc_history.specs.declared.told.AlreadyStopped.{AlreadyStopped}
 use Rattle.bsc_history.specs.declared.told.Told.{Told}
@@ -12,8 +12,10 @@ use Rattle.bsc_turn.specs.declared.view.Ended.{Ended as EndedCaller}
 use Rattle.bsc_turn.specs.Passes.{drawn_list, number_of, seen}
 use Rattle.bsc_hub.specs.Calls.{stop_made}
 use Rattle.bsc_hub.specs.Passing.{Passed, Went, found_history}
+use Rattle.bsc_edge.specs.declared.begun.Begun.{Begun}
 use Rattle.bsc_edge.specs.declared.fault.LinkFault.{LinkFault}
 use Rattle.bsc_edge.specs.declared.fault.LinkFault.TheVariants.{Failed}
+use Rattle.bsc_edge.specs.declared.said.Said.{Said}
 use Rattle.bsc_edge.specs.Told.{Grows}
 use Rattle.bsc_desk.specs.Entries.{stop_entry}
 use Rattle.bsc_notes.specs.Notes.{HasLine, Note, Records, made}
@@ -22,8 +24,8 @@ use Rattle.bsc_serve.specs.declared.end.ServeEnd.{ServeEnd}
 use Rattle.bsc_serve.specs.declared.end.ServeEnd.TheVariants.{Done, StoppedBefore, AcceptFault, JournalFault, NoMemory}
 use Rattle.bsc_session.specs.declared.job.SessionJob.{SessionJob}
 use Rattle.bsc_session.specs.declared.session_end.SessionEnd.{SessionEnd}
-use Rattle.bsc_serve.specs.Events.{AllStand, AreFates, Event, OutAfter, callers_of, ends_of, jobs_of, links_of, numbers_of, returned_of, unstarted_of}
-use Rattle.bsc_serve.specs.Fates.{IsUnused}
+use Rattle.bsc_serve.specs.Events.{AllStand, AreFates, Event, OutAfter, begun_call, begun_of, callers_of, ends_of, jobs_of, links_of, numbers_of, returned_of, unstarted_of}
+use Rattle.bsc_serve.specs.Fates.{IsTurnedAway, IsUnused}
 use Rattle.bsc_serve.specs.Terms.{Terms}
 use Rattle.bsc_serve.specs.Worlds.{ServedWorld}
 
@@ -37,11 +39,12 @@ Loses (Some old) (Some new) xs = old ≡ xs ++ new
 abbrev pub RoseBy : ℕ → ℕ → ℕ → Type 0
 RoseBy n old new = (old + n ≤ new) ⊎ (18446744073709551615 ≤ new)
 
--- A link whose job couldn't be made, and the caller whose pass was split for it: its journal couldn't be begun, or there was no
--- memory.
+-- A link whose job couldn't be made, the caller whose pass was split for it, and whether its journal came: it couldn't be begun,
+-- or there was no memory.
 pub record Cut (L : Type 0) : Type 0 where
   pub link : L
   pub caller : EndedCaller
+  pub came : Bool
   pub fault : LinkFault
 
 module _ {L : Type 0} where
@@ -58,6 +61,16 @@ module _ {L : Type 0} where
   cut_numbers None = []
   cut_numbers (Some c) = c.caller.number ∷ []
 
+  -- the call that was to begin its journal
+  abbrev pub cut_begun : Option (List ℕ) → Option (Cut L) → List Begun
+  cut_begun prefix None = []
+  cut_begun prefix (Some c) = begun_call prefix c.came c.caller.number ∷ []
+
+  -- Under a fault of a journal none came; and the link was turned away.
+  abbrev pub CutSo : (L → Option (List Said)) → Option (Cut L) → Type 0
+  CutSo talk None = ⊤
+  CutSo talk (Some c) = (c.fault ≡ Failed → c.came ≡ false) × IsTurnedAway talk c.link
+
   -- why its job couldn't be made
   abbrev pub cut_fault : Option (Cut L) → Option LinkFault
   cut_fault None = None
@@ -72,6 +85,17 @@ module _ {L : Type 0} where
   -- begun.
   abbrev pub JournalFailed : Option (Cut L) → Option LinkFault → Type 0
   JournalFailed cut lost = (lost ≡ Some Failed) ⊎ (cut_fault cut ≡ Some Failed)
+
+-- Serving was cut short.
+abbrev pub IsCutShort : ServeEnd → Type 0
+IsCutShort (Done c u) = ⊥
+IsCutShort (StoppedBefore at u) = ⊥
+IsCutShort end = ⊤
+
+-- Each time that the acceptor was asked a link came, or none within the wait; or one time more it was asked, and that cut serving
+-- short, with no link that was cut: the acceptor failed, or had no memory.
+abbrev pub AreAnswered : {L : Type 0} → ℕ → ℕ → ℕ → Option (Cut L) → ServeEnd → Type 0
+AreAnswered asks came idle cut end = (asks ≡ came + idle) ⊎ ((asks ≡ came + idle + 1) × (cut ≡ None) × IsCutShort end)
 
 -- No more links than are awaited, where that is said.
 abbrev pub IsWithin : Option ℕ → ℕ → Type 0
@@ -106,12 +130,12 @@ module _ {L C N : Type 0} where
   EndsSo awaited events cut still stop lost JournalFault = JournalFailed cut lost
   EndsSo awaited events cut still stop lost NoMemory = JournalFailed cut lost → ⊥
 
-module _ {L C N : Type 0} (works : SessionJob L C N → SessionEnd L C N → Type 0) (begins : Option (List ℕ) → ℕ → N → Type 0) where
+module _ {L C N : Type 0} (works : SessionJob L C N → SessionEnd L C N → Type 0) (begins : Option (List ℕ) → ℕ → N → Type 0) (talk : L → Option (List Said)) where
   -- What serving a hub comes to, on these terms, from one world to another of the same hub, where `works` says what may be left
-  -- of a job, and `begins` whether a sink is the journal of a prefix and a number: there is what happened, in order, under want
-  -- of memory or a fault of a journal one link more, the jobs that were still out when the hub was stopped, an answer of its
-  -- stop, the own pass as the stop left it, how those jobs ended then, and why the Stop's line wasn't put, if it wasn't, such
-  -- that ..
+  -- of a job, `begins` whether a sink is the journal of a prefix and a number, and `talk` what was said on a link: there is what
+  -- happened, in order, under want of memory or a fault of a journal one link more, the jobs that were still out when the hub was
+  -- stopped, an answer of its stop, the own pass as the stop left it, how those jobs ended then, and why the Stop's line wasn't
+  -- put, if it wasn't, such that ..
   pub record Serving (terms : Terms) (before after : ServedWorld L C N) (end : ServeEnd) : Type 0 where
     pub events : List (Event L C N)
     pub cut : Option (Cut L)
@@ -121,19 +145,26 @@ module _ {L C N : Type 0} (works : SessionJob L C N → SessionEnd L C N → Typ
     pub late : List (Event L C N)
     pub lost : Option LinkFault
     pub cut_last : CutBy cut end
+    pub cut_so : CutSo talk cut
     pub hub : after.hub ≡ before.hub
     -- .. these links left the acceptor, in order, so these came, no more than are awaited; and it was asked so often, for 20 ms
-    -- each time;
+    -- each time; so often none came, and it was never asked again after a fault;
     pub left : Loses before.beside.links after.beside.links (links_of events ++ cut_links cut)
     pub came : Grows before.beside.came after.beside.came (links_of events ++ cut_links cut)
     pub within : IsWithin terms.sessions (length (links_of events) + length (cut_links cut))
     pub asks : ℕ
     pub asked : Grows before.beside.waits after.beside.waits (replicate asks WAIT_MS)
+    pub idle : ℕ
+    pub quiet : RoseBy idle before.beside.quiets after.beside.quiets
+    pub answered : AreAnswered asks (length (links_of events) + length (cut_links cut)) idle cut end
     -- for each that isn't unstarted the spawner took one job, in order, with that link, this hub, a pass that was split in
-    -- this call, these limits and turns, this policy, and a journal of this prefix and of the number of its own pass;
+    -- this call, these limits and turns, this policy, and a journal of this prefix and of the number of its own pass; each that has
+    -- no job was turned away;
     pub jobs : Grows before.beside.jobs after.beside.jobs (jobs_of events)
-    pub fates : AreFates begins before.hub terms before.beside.pass after.beside.pass events
-    -- no more came back than the spawner's count rose by;
+    pub fates : AreFates begins talk before.hub terms before.beside.pass after.beside.pass events
+    -- a journal was begun for each number that was drawn for a link, under this prefix, in order, and no other;
+    pub begun : Grows before.beside.begun after.beside.begun (begun_of terms.prefix events ++ cut_begun terms.prefix cut)
+    -- no more jobs came back than the spawner's count rose by;
     pub returned : RoseBy (returned_of events) before.beside.unstarted after.beside.unstarted
     -- each job that ended was one that was out, and those that didn't were still out when the hub was stopped; these ended after
     -- it, and none is out at last;

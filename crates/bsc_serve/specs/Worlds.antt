@@ -2,17 +2,21 @@
 use Rattle.std.specs.Prelude.{ℕ, List, Option}
 use Rattle.bsc_turn.specs.declared.pass.Pass.{Pass}
 use Rattle.bsc_hub.specs.declared.hub.Hub.{Hub}
+use Rattle.bsc_edge.specs.declared.begun.Begun.{Begun}
 use Rattle.bsc_session.specs.declared.job.SessionJob.{SessionJob}
 use Rattle.bsc_session.specs.declared.session_end.SessionEnd.{SessionEnd}
 
--- The hub's own pass; the links that the acceptor has left, those that came so far, and the waits that it was asked for; the
--- jobs that the spawner has taken, what is left of those that it gave back, those of them that are out, and its count of jobs
--- that weren't started. The links, the waits, the jobs that were taken and what was given back are as far as they are told.
+-- The hub's own pass; the links that the acceptor has left, those that came so far, the waits that it was asked for, and its
+-- count of those in which none came; the calls that began a journal; the jobs that the spawner has taken, what is left of those
+-- that it gave back, those of them that are out, and its count of jobs that weren't started. The links, the waits, the calls, the
+-- jobs that were taken and what was given back are as far as they are told.
 pub record ServeWorld (L C N : Type 0) : Type 0 where
   pub pass : Pass
   pub links : Option (List L)
   pub came : Option (List L)
   pub waits : Option (List ℕ)
+  pub quiets : ℕ
+  pub begun : Option (List Begun)
   pub jobs : Option (List (SessionJob L C N))
   pub given_back : Option (List (SessionEnd L C N))
   pub out : List (SessionJob L C N)

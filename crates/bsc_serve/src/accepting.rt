@@ -57,25 +57,29 @@ fn take_next<
     requires awaits { tally.old.remaining ≢ Some 0 }
     ensures again { P.can_start parts.new.spawner }
     ensures taken { (first : ServeWorld L C N) →
-        Taken (Worked L.talk L.faults L.notices C.readings N.held N.faults) J.begins (arc_value served.entry.hub.now)
+        Taken (Worked L.talk L.faults L.notices C.readings N.held N.faults) J.begins L.talk (arc_value served.entry.hub.now)
         (all_terms served.entry.terms (option_map (λ p. p.now) served.entry.prefix) (policy_of served.entry.policy.now)) first
         (record {
           pass = pass.old;
           links = A.left parts.old.acceptor;
           came = A.came parts.old.acceptor;
           waits = A.waits parts.old.acceptor;
+          quiets = A.quiets parts.old.acceptor;
+          begun = J.calls parts.old.journals;
           jobs = P.jobs parts.old.spawner;
           given_back = P.ends parts.old.spawner;
           out = P.out parts.old.spawner;
           unstarted = P.faults parts.old.spawner;
         }) tally.old →
-        TakesOn (Worked L.talk L.faults L.notices C.readings N.held N.faults) J.begins (arc_value served.entry.hub.now)
+        TakesOn (Worked L.talk L.faults L.notices C.readings N.held N.faults) J.begins L.talk (arc_value served.entry.hub.now)
         (all_terms served.entry.terms (option_map (λ p. p.now) served.entry.prefix) (policy_of served.entry.policy.now)) first
         (record {
           pass = pass.new;
           links = A.left parts.new.acceptor;
           came = A.came parts.new.acceptor;
           waits = A.waits parts.new.acceptor;
+          quiets = A.quiets parts.new.acceptor;
+          begun = J.calls parts.new.journals;
           jobs = P.jobs parts.new.spawner;
           given_back = P.ends parts.new.spawner;
           out = P.out parts.new.spawner;
@@ -120,13 +124,15 @@ pub(crate) fn accept_all<
     requires pass { IsCaller (arc_value served.hub.now) pass.old }
     requires none { P.out parts.old.spawner ≡ [] }
     ensures again { P.can_start parts.new.spawner }
-    ensures accepts { Accepts (Worked L.talk L.faults L.notices C.readings N.held N.faults) J.begins (arc_value served.entry.hub.now)
+    ensures accepts { Accepts (Worked L.talk L.faults L.notices C.readings N.held N.faults) J.begins L.talk (arc_value served.entry.hub.now)
         (all_terms served.entry.terms (option_map (λ p. p.now) served.entry.prefix) (policy_of served.entry.policy.now))
         (record {
           pass = pass.old;
           links = A.left parts.old.acceptor;
           came = A.came parts.old.acceptor;
           waits = A.waits parts.old.acceptor;
+          quiets = A.quiets parts.old.acceptor;
+          begun = J.calls parts.old.journals;
           jobs = P.jobs parts.old.spawner;
           given_back = P.ends parts.old.spawner;
           out = P.out parts.old.spawner;
@@ -137,6 +143,8 @@ pub(crate) fn accept_all<
           links = A.left parts.new.acceptor;
           came = A.came parts.new.acceptor;
           waits = A.waits parts.new.acceptor;
+          quiets = A.quiets parts.new.acceptor;
+          begun = J.calls parts.new.journals;
           jobs = P.jobs parts.new.spawner;
           given_back = P.ends parts.new.spawner;
           out = P.out parts.new.spawner;

@@ -170,7 +170,7 @@ pub fn serve_on<
     ensures again { P.can_start parts.new.spawner }
 
     // What became of the links, which jobs were taken and ended, and what the hub was told at last.
-    ensures serving { Serving (Worked L.talk L.faults L.notices C.readings N.held N.faults) J.begins
+    ensures serving { Serving (Worked L.talk L.faults L.notices C.readings N.held N.faults) J.begins L.talk
         (all_terms served.entry.terms (option_map (λ p. p.now) served.entry.prefix) (policy_of served.entry.policy.now))
         (record {
           hub = arc_value served.entry.hub.now;
@@ -180,6 +180,8 @@ pub fn serve_on<
             links = A.left parts.old.acceptor;
             came = A.came parts.old.acceptor;
             waits = A.waits parts.old.acceptor;
+            quiets = A.quiets parts.old.acceptor;
+            begun = J.calls parts.old.journals;
             jobs = P.jobs parts.old.spawner;
             given_back = P.ends parts.old.spawner;
             out = P.out parts.old.spawner;
@@ -194,6 +196,8 @@ pub fn serve_on<
             links = A.left parts.new.acceptor;
             came = A.came parts.new.acceptor;
             waits = A.waits parts.new.acceptor;
+            quiets = A.quiets parts.new.acceptor;
+            begun = J.calls parts.new.journals;
             jobs = P.jobs parts.new.spawner;
             given_back = P.ends parts.new.spawner;
             out = P.out parts.new.spawner;

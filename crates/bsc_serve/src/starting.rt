@@ -5,7 +5,7 @@ ghost use Rattle.bsc_outside.specs.Faults.{HasRisen};
 ghost use Rattle.bsc_edge.specs.declared.fault.LinkFault.{LinkFault};
 ghost use Rattle.bsc_hub.specs.Passing.{IsCaller};
 ghost use Rattle.bsc_session.specs.Jobs.{policy_of};
-ghost use Rattle.bsc_serve.specs.Inner.{Fares, HandsOver};
+ghost use Rattle.bsc_serve.specs.Inner.{Fares, HandsOver, TurnsAway};
 ghost use Rattle.bsc_serve.specs.Terms.{all_terms};
 
 use crate::parts::ServingParts;
@@ -43,6 +43,7 @@ fn hand_over<
     ensures hands { HandsOver hub.now pass.old pass.new job
         (record { jobs = P.jobs spawner.old; given_back = P.ends spawner.old; out = P.out spawner.old; unstarted = P.faults spawner.old })
         (record { jobs = P.jobs spawner.new; given_back = P.ends spawner.new; out = P.out spawner.new; unstarted = P.faults spawner.new }) result }
+    ensures turned { TurnsAway L.talk job.link result }
     ensures memory { result ≢ Err LinkFault.Failed }
 {
     match spawner.start(rt, alloc, job) {
@@ -92,16 +93,18 @@ pub(crate) fn start_session<
     requires can { P.can_start parts.old.spawner }
     requires pass { IsCaller (arc_value served.hub.now) pass.old }
     ensures again { P.can_start parts.new.spawner }
-    ensures fares { Fares J.begins (arc_value served.entry.hub.now)
+    ensures fares { Fares J.begins L.talk (arc_value served.entry.hub.now)
         (all_terms served.entry.terms (option_map (λ p. p.now) served.entry.prefix) (policy_of served.entry.policy.now))
         link
         (record {
           pass = pass.old;
           stock = record { jobs = P.jobs parts.old.spawner; given_back = P.ends parts.old.spawner; out = P.out parts.old.spawner; unstarted = P.faults parts.old.spawner };
+          begun = J.calls parts.old.journals;
         })
         (record {
           pass = pass.new;
           stock = record { jobs = P.jobs parts.new.spawner; given_back = P.ends parts.new.spawner; out = P.out parts.new.spawner; unstarted = P.faults parts.new.spawner };
+          begun = J.calls parts.new.journals;
         }) result }
     ensures unbegun { result ≡ Err LinkFault.Failed → HasRisen (J.faults parts.old.journals) (J.faults parts.new.journals) }
     ensures journals_later { J.faults parts.old.journals ≤ J.faults parts.new.journals }

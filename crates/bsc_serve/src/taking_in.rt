@@ -76,7 +76,7 @@ pub(crate) fn take_ended<
     requires ours { AllOurs hub.now (P.out spawner.old) }
     ensures again { P.can_start spawner.old → P.can_start spawner.new }
     ensures caller { IsCaller hub.now pass.new }
-    ensures goes_on { GoesOn (Worked L.talk L.faults L.notices C.readings N.held N.faults) J.begins hub.now pass.old
+    ensures goes_on { GoesOn (Worked L.talk L.faults L.notices C.readings N.held N.faults) J.begins L.talk hub.now pass.old
         (record { jobs = P.jobs spawner.old; given_back = P.ends spawner.old; out = P.out spawner.old; unstarted = P.faults spawner.old }) pass.new
         (record { jobs = P.jobs spawner.new; given_back = P.ends spawner.new; out = P.out spawner.new; unstarted = P.faults spawner.new }) }
     ensures takes_in { TakesIn (Worked L.talk L.faults L.notices C.readings N.held N.faults) hub.now pass.old

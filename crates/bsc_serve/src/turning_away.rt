@@ -5,6 +5,7 @@ ghost use Rattle.bsc_edge.specs.Told.{Grows};
 ghost use Rattle.bsc_turn.specs.Effects.{ended_of};
 ghost use Rattle.bsc_turn.specs.Passes.{ended_callers, newest_number, view_of};
 ghost use Rattle.bsc_hub.specs.Passing.{IsCaller, Passed};
+ghost use Rattle.bsc_serve.specs.Fates.{IsTurnedAway};
 
 use bsc_edge::Link;
 use bsc_hub::{Hub, Pass};
@@ -18,7 +19,9 @@ fn turn_away<L: Link>(alloc: Global, link: &mut L)
 }
 
 /// Closes a link for which there is no number.
-pub(crate) fn drop_link<L: Link + Drop>(alloc: Global, link: L) {
+pub(crate) fn drop_link<L: Link + Drop>(alloc: Global, link: L)
+    ensures { IsTurnedAway L.talk link }
+{
     let mut link = link;
     turn_away(alloc, &mut link);
 }
@@ -35,6 +38,7 @@ pub(crate) fn take_back<L: Link + Drop>(
     requires other { IsCaller hub.now other }
     ensures pass { Passed hub.now pass.old (ended_of (view_of other) ∷ ended_callers other) None pass.new }
     ensures loaded { newest_number pass.new ≡ newest_number pass.old }
+    ensures turned { IsTurnedAway L.talk link }
 {
     drop_link(alloc, link);
     hub.join(pass, other);

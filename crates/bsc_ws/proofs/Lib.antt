@@ -1,2 +1,4 @@
 pub mod Offering
 pub mod Naming
+pub mod Closing
+mod WorkedClosing

@@ -1,5 +1,6 @@
-use Rattle.std.proofs.Common.{◌≡◌, Some, Result, Err, Ok, IfOk, Option, ap, map, subst, sym, ◌∙◌, arith}
+use Rattle.std.proofs.Common.{◌≡◌, [], ◌∷◌, Some, Result, Err, Ok, IfOk, Option, ap, map, subst, sym, ◌∙◌, arith}
 use Rattle.std.specs.Prelude.{string_bytes}
+use Rattle.bsc_edge.proofs.Reading.{reads_none}
 use Rattle.bsc_script.specs.Scripts.{replay_of}
 use Rattle.bsc_replay.specs.Checks.{check_of}
 use Rattle.bsc_network_script.specs.Scripts.{simulate_of}
@@ -146,3 +147,23 @@ returns-in-Err-clause-audited_reads g c named =
     unaudited_of_reads c.end_unasked.result (g.S.Source.reads c.args.outside.now.source) (g.K.Sink.held c.args.outside.now.sink) (g.K.Sink.held c.end_unasked.new.sink)
     (ran_out c.in-Err.fault (asked_in c.args.read.now) audit c.end_unasked.result
     (g.K.Sink.held c.args.outside.now.sink) (g.K.Sink.held c.end_unasked.new.sink) none c.end_unasked.ensures.ran_out named)
+
+-- ---- which files were read
+
+pub returns-in-Ok-clause-hub_read : goal.returns-in-Ok-clause-hub_read
+returns-in-Ok-clause-hub_read g c path sessions journal named =
+    let read = c.args.read.now in
+    let asked = said (asked_in read) read.asked c.in-Ok.asked c.in-Ok.is read.ok in
+    c.run_asked.ensures.hub_read path sessions journal (asks_same (asked_in read) (seen c.in-Ok.asked) (hub path sessions journal) asked named)
+
+pub returns-in-Ok-clause-node_read : goal.returns-in-Ok-clause-node_read
+returns-in-Ok-clause-node_read g c path script named =
+    let read = c.args.read.now in
+    let asked = said (asked_in read) read.asked c.in-Ok.asked c.in-Ok.is read.ok in
+    c.run_asked.ensures.node_read path script (asks_same (asked_in read) (seen c.in-Ok.asked) (node path script) asked named)
+
+pub returns-in-Err-clause-hub_read : goal.returns-in-Err-clause-hub_read
+returns-in-Err-clause-hub_read g c path sessions journal named = reads_none (g.F.Files.loads c.args.outside.now.files) (path ∷ [])
+
+pub returns-in-Err-clause-node_read : goal.returns-in-Err-clause-node_read
+returns-in-Err-clause-node_read g c path script named = reads_none (g.F.Files.loads c.args.outside.now.files) (path ∷ script ∷ [])

@@ -1,5 +1,7 @@
-use Rattle.std.proofs.Common.{◌≡◌, ℕ, List, Option, Ok, map, option_map, ap, sym, ◌∙◌}
+use Rattle.std.proofs.Common.{◌≡◌, ℕ, List, [], ◌∷◌, Option, Ok, map, option_map, ap, sym, ◌∙◌}
 use Rattle.clap.specs.Words.{Text}
+use Rattle.bsc_edge.specs.Asked.{GaveFile, ReadsFirstOf}
+use Rattle.bsc_edge.proofs.Reading.{reads_one}
 use Rattle.bsc_policy.specs.declared.policy.Policy.{Policy}
 use Rattle.bsc_settings.specs.declared.hub.HubSettings.{HubSettings}
 use Rattle.bsc_session.specs.Jobs.{Worked}
@@ -22,17 +24,17 @@ pub returns-in-Hub-clause-hub : goal.returns-in-Hub-clause-hub
 returns-in-Hub-clause-hub g c path sessions journal made named kept =
     let A = g.A.Acceptor in
     let P = g.P.Spawner in
-    let before : HubWorld g.row.L.Denot g.row.C.Denot g.row.N.Denot = record { links = A.left c.args.outside.now.parts.acceptor; came = A.came c.args.outside.now.parts.acceptor; waits = A.waits c.args.outside.now.parts.acceptor; port = A.bound c.args.outside.now.parts.acceptor; faults = A.faults c.args.outside.now.parts.acceptor; jobs = P.jobs c.args.outside.now.parts.spawner; given_back = P.ends c.args.outside.now.parts.spawner; out = P.out c.args.outside.now.parts.spawner; unstarted = P.faults c.args.outside.now.parts.spawner; unbegun = g.J.Journals.faults c.args.outside.now.parts.journals; written = g.K.Sink.held c.args.outside.now.sink } in
-    let after : HubWorld g.row.L.Denot g.row.C.Denot g.row.N.Denot = record { links = A.left c.run_hub.new.parts.acceptor; came = A.came c.run_hub.new.parts.acceptor; waits = A.waits c.run_hub.new.parts.acceptor; port = A.bound c.run_hub.new.parts.acceptor; faults = A.faults c.run_hub.new.parts.acceptor; jobs = P.jobs c.run_hub.new.parts.spawner; given_back = P.ends c.run_hub.new.parts.spawner; out = P.out c.run_hub.new.parts.spawner; unstarted = P.faults c.run_hub.new.parts.spawner; unbegun = g.J.Journals.faults c.run_hub.new.parts.journals; written = g.K.Sink.held c.run_hub.new.sink } in
-    of_hub (λ (p : Text) (n : Option ℕ) (j : Option Text). (v : HubSettings) × (policy : Option Policy) × IsSettled (g.F.Files.holds c.args.outside.now.files p) v policy
-    × HubRuns (telling (Worked g.L.Link.talk g.L.Link.faults g.L.Link.notices g.C.Clock.readings g.N.Sink.held g.N.Sink.faults) g.J.Journals.begins g.N.Sink.held g.N.Sink.faults) (record { settings = v; policy = policy; sessions = n; prefix = j }) c.run_hub.new.place before after c.run_hub.result)
+    let before : HubWorld g.row.L.Denot g.row.C.Denot g.row.N.Denot = record { links = A.left c.args.outside.now.parts.acceptor; came = A.came c.args.outside.now.parts.acceptor; waits = A.waits c.args.outside.now.parts.acceptor; quiets = A.quiets c.args.outside.now.parts.acceptor; port = A.bound c.args.outside.now.parts.acceptor; faults = A.faults c.args.outside.now.parts.acceptor; jobs = P.jobs c.args.outside.now.parts.spawner; given_back = P.ends c.args.outside.now.parts.spawner; out = P.out c.args.outside.now.parts.spawner; unstarted = P.faults c.args.outside.now.parts.spawner; begun = g.J.Journals.calls c.args.outside.now.parts.journals; unbegun = g.J.Journals.faults c.args.outside.now.parts.journals; written = g.K.Sink.held c.args.outside.now.sink } in
+    let after : HubWorld g.row.L.Denot g.row.C.Denot g.row.N.Denot = record { links = A.left c.run_hub.new.parts.acceptor; came = A.came c.run_hub.new.parts.acceptor; waits = A.waits c.run_hub.new.parts.acceptor; quiets = A.quiets c.run_hub.new.parts.acceptor; port = A.bound c.run_hub.new.parts.acceptor; faults = A.faults c.run_hub.new.parts.acceptor; jobs = P.jobs c.run_hub.new.parts.spawner; given_back = P.ends c.run_hub.new.parts.spawner; out = P.out c.run_hub.new.parts.spawner; unstarted = P.faults c.run_hub.new.parts.spawner; begun = g.J.Journals.calls c.run_hub.new.parts.journals; unbegun = g.J.Journals.faults c.run_hub.new.parts.journals; written = g.K.Sink.held c.run_hub.new.sink } in
+    of_hub (λ (p : Text) (n : Option ℕ) (j : Option Text). (v : HubSettings) × (policy : Option Policy) × IsSettled (GaveFile g.F.Files.holds g.F.Files.loads c.args.outside.now.files c.run_hub.new.files p) v policy
+    × HubRuns (telling (Worked g.L.Link.talk g.L.Link.faults g.L.Link.notices g.C.Clock.readings g.N.Sink.held g.N.Sink.faults) g.J.Journals.begins g.L.Link.talk g.N.Sink.held g.N.Sink.faults) (record { settings = v; policy = policy; sessions = n; prefix = j }) c.run_hub.new.place before after c.run_hub.result)
     c.in-Hub.path.now path c.in-Hub.sessions sessions (option_map (λ q. q.now) c.in-Hub.journal) journal (sym (ap seen c.in-Hub.is) ∙ named) (c.run_hub.ensures.runs made kept)
 
 pub returns-in-Hub-clause-no_hub : goal.returns-in-Hub-clause-no_hub
 returns-in-Hub-clause-no_hub g c path sessions journal named none =
     let F = g.F.Files in
     let K = g.K.Sink in
-    of_hub (λ (p : Text) (n : Option ℕ) (j : Option Text). Unsettled (F.holds c.args.outside.now.files p) (F.faults c.args.outside.now.files) (F.faults c.run_hub.new.files)
+    of_hub (λ (p : Text) (n : Option ℕ) (j : Option Text). Unsettled (GaveFile F.holds F.loads c.args.outside.now.files c.run_hub.new.files p) (F.faults c.args.outside.now.files) (F.faults c.run_hub.new.files)
     c.run_hub.result (K.held c.args.outside.now.sink) (K.held c.run_hub.new.sink))
     c.in-Hub.path.now path c.in-Hub.sessions sessions (option_map (λ q. q.now) c.in-Hub.journal) journal (sym (ap seen c.in-Hub.is) ∙ named) (c.run_hub.ensures.unmade none)
 
@@ -45,12 +47,27 @@ returns-in-Node-clause-node g c path script named =
     let F = g.F.Files in
     let before : CommandWorld g.row.L.Denot g.row.W.Denot = record { unread = F.faults c.args.outside.now.files; beside = record { dialled = dialling D.calls D.left D.came D.faults c.args.outside.now.node.dialer; door = admitting A.left A.came A.waits c.args.outside.now.parts.acceptor; port = A.bound c.args.outside.now.parts.acceptor; faults = A.faults c.args.outside.now.parts.acceptor; readings = C.readings c.args.outside.now.parts.clock; waited = V.waits c.args.outside.now.node.waiter; random = c.args.outside.now.node.random; written = g.K.Sink.held c.args.outside.now.sink } } in
     let after : CommandWorld g.row.L.Denot g.row.W.Denot = record { unread = F.faults c.run_node_files.new.files; beside = record { dialled = dialling D.calls D.left D.came D.faults c.run_node_files.new.parts.dialer; door = admitting A.left A.came A.waits c.run_node_files.new.acceptor; port = A.bound c.run_node_files.new.acceptor; faults = A.faults c.run_node_files.new.acceptor; readings = C.readings c.run_node_files.new.clock; waited = V.waits c.run_node_files.new.parts.waiter; random = c.run_node_files.new.parts.random; written = g.K.Sink.held c.run_node_files.new.sink } } in
-    of_node (λ (p q : Text). RunsFiles g.L.Link.talk (Draws g.W.Words.gives g.W.Words.faults) (record { settings = F.holds c.args.outside.now.files p; script = F.holds c.args.outside.now.files q }) before after c.run_node_files.result)
+    of_node (λ (p q : Text). RunsFiles g.L.Link.talk (Draws g.W.Words.gives g.W.Words.faults) (record { settings = GaveFile F.holds F.loads c.args.outside.now.files c.run_node_files.new.files p; script = GaveFile F.holds F.loads c.args.outside.now.files c.run_node_files.new.files q }) before after c.run_node_files.result)
     c.in-Node.path.now path c.in-Node.script.now script (sym (ap seen c.in-Node.is) ∙ named) c.run_node_files.ensures.runs
 
 pub returns-in-Node-clause-finished : goal.returns-in-Node-clause-finished
 returns-in-Node-clause-finished g c path script named =
     let C = g.C.Clock in
-    of_node (λ (p q : Text). c.run_node_files.result ≡ 0 → (o : List ℕ) × g.F.Files.holds c.args.outside.now.files q o
+    of_node (λ (p q : Text). c.run_node_files.result ≡ 0 → (o : List ℕ) × GaveFile g.F.Files.holds g.F.Files.loads c.args.outside.now.files c.run_node_files.new.files q o
     × (lines : List Due) × (script_of o ≡ Ok (map wish_of lines)) × FinishCame lines (C.readings c.args.outside.now.parts.clock) (C.readings c.run_node_files.new.clock))
     c.in-Node.path.now path c.in-Node.script.now script (sym (ap seen c.in-Node.is) ∙ named) c.run_node_files.ensures.finished
+
+-- ---- which files were read
+
+pub returns-in-Hub-clause-hub_read : goal.returns-in-Hub-clause-hub_read
+returns-in-Hub-clause-hub_read g c path sessions journal named =
+    let loads = g.F.Files.loads in
+    of_hub (λ (p : Text) (n : Option ℕ) (j : Option Text). ReadsFirstOf (loads c.args.outside.now.files) (loads c.run_hub.new.files) (p ∷ []))
+    c.in-Hub.path.now path c.in-Hub.sessions sessions (option_map (λ q. q.now) c.in-Hub.journal) journal (sym (ap seen c.in-Hub.is) ∙ named)
+    (reads_one (loads c.args.outside.now.files) (loads c.run_hub.new.files) c.in-Hub.path.now [] c.run_hub.ensures.once)
+
+pub returns-in-Node-clause-node_read : goal.returns-in-Node-clause-node_read
+returns-in-Node-clause-node_read g c path script named =
+    let loads = g.F.Files.loads in
+    of_node (λ (p q : Text). ReadsFirstOf (loads c.args.outside.now.files) (loads c.run_node_files.new.files) (p ∷ q ∷ []))
+    c.in-Node.path.now path c.in-Node.script.now script (sym (ap seen c.in-Node.is) ∙ named) c.run_node_files.ensures.loaded

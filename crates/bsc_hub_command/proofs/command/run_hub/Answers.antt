@@ -14,12 +14,12 @@ returns-in-Ok-clause-runs g c hub is =
     let W = Worked g.L.Link.talk g.L.Link.faults g.L.Link.notices g.C.Clock.readings N.held N.faults in
     let policy = policy_of c.in-Ok.settings.policy in
     let asked : HubTerms = record { settings = c.in-Ok.settings.hub; policy = policy; sessions = c.args.words.sessions; prefix = option_map (λ p. p.now) c.args.words.journal } in
-    let before : Option (List ℕ) → HubWorld g.row.L.Denot g.row.C.Denot g.row.N.Denot = λ (t : Option (List ℕ)). record { links = A.left c.args.parts.now.acceptor; came = A.came c.args.parts.now.acceptor; waits = A.waits c.args.parts.now.acceptor; port = A.bound c.args.parts.now.acceptor; faults = A.faults c.args.parts.now.acceptor; jobs = P.jobs c.args.parts.now.spawner; given_back = P.ends c.args.parts.now.spawner; out = P.out c.args.parts.now.spawner; unstarted = P.faults c.args.parts.now.spawner; unbegun = J.faults c.args.parts.now.journals; written = t } in
-    let after : HubWorld g.row.L.Denot g.row.C.Denot g.row.N.Denot = record { links = A.left c.serve.new.parts.acceptor; came = A.came c.serve.new.parts.acceptor; waits = A.waits c.serve.new.parts.acceptor; port = A.bound c.serve.new.parts.acceptor; faults = A.faults c.serve.new.parts.acceptor; jobs = P.jobs c.serve.new.parts.spawner; given_back = P.ends c.serve.new.parts.spawner; out = P.out c.serve.new.parts.spawner; unstarted = P.faults c.serve.new.parts.spawner; unbegun = J.faults c.serve.new.parts.journals; written = g.K.Sink.held c.serve.new.sink } in (
+    let before : Option (List ℕ) → HubWorld g.row.L.Denot g.row.C.Denot g.row.N.Denot = λ (t : Option (List ℕ)). record { links = A.left c.args.parts.now.acceptor; came = A.came c.args.parts.now.acceptor; waits = A.waits c.args.parts.now.acceptor; quiets = A.quiets c.args.parts.now.acceptor; port = A.bound c.args.parts.now.acceptor; faults = A.faults c.args.parts.now.acceptor; jobs = P.jobs c.args.parts.now.spawner; given_back = P.ends c.args.parts.now.spawner; out = P.out c.args.parts.now.spawner; unstarted = P.faults c.args.parts.now.spawner; begun = J.calls c.args.parts.now.journals; unbegun = J.faults c.args.parts.now.journals; written = t } in
+    let after : HubWorld g.row.L.Denot g.row.C.Denot g.row.N.Denot = record { links = A.left c.serve.new.parts.acceptor; came = A.came c.serve.new.parts.acceptor; waits = A.waits c.serve.new.parts.acceptor; quiets = A.quiets c.serve.new.parts.acceptor; port = A.bound c.serve.new.parts.acceptor; faults = A.faults c.serve.new.parts.acceptor; jobs = P.jobs c.serve.new.parts.spawner; given_back = P.ends c.serve.new.parts.spawner; out = P.out c.serve.new.parts.spawner; unstarted = P.faults c.serve.new.parts.spawner; begun = J.calls c.serve.new.parts.journals; unbegun = J.faults c.serve.new.parts.journals; written = g.K.Sink.held c.serve.new.sink } in (
       c.in-Ok.settings.hub,
       policy,
       c.in-Ok.ensures.settled.0,
-      subst (λ (t : Option (List ℕ)). HubRuns (telling W J.begins N.held N.faults) asked c.serve.new.place (before t) after c.serve.result)
+      subst (λ (t : Option (List ℕ)). HubRuns (telling W J.begins g.L.Link.talk N.held N.faults) asked c.serve.new.place (before t) after c.serve.result)
           c.in-Ok.ensures.settled.1 (c.serve.ensures.runs hub is),
     )
 

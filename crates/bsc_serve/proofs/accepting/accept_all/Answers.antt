@@ -16,11 +16,12 @@ loop-init g c =
     let P = g.P.Spawner in
     let W = Worked g.L.Link.talk g.L.Link.faults g.L.Link.notices g.C.Clock.readings g.N.Sink.held g.N.Sink.faults in
     let B = g.J.Journals.begins in
+    let T = g.L.Link.talk in
     let terms = all_terms c.args.served.terms (option_map (λ p. p.now) c.args.served.prefix) (policy_of c.args.served.policy.now) in
-    let first : ServeWorld g.row.L.Denot g.row.C.Denot g.row.N.Denot = record { pass = c.args.pass.now; links = A.left c.args.parts.now.acceptor; came = A.came c.args.parts.now.acceptor; waits = A.waits c.args.parts.now.acceptor; jobs = P.jobs c.args.parts.now.spawner; given_back = P.ends c.args.parts.now.spawner; out = P.out c.args.parts.now.spawner; unstarted = P.faults c.args.parts.now.spawner } in (
+    let first : ServeWorld g.row.L.Denot g.row.C.Denot g.row.N.Denot = record { pass = c.args.pass.now; links = A.left c.args.parts.now.acceptor; came = A.came c.args.parts.now.acceptor; waits = A.waits c.args.parts.now.acceptor; quiets = A.quiets c.args.parts.now.acceptor; begun = g.J.Journals.calls c.args.parts.now.journals; jobs = P.jobs c.args.parts.now.spawner; given_back = P.ends c.args.parts.now.spawner; out = P.out c.args.parts.now.spawner; unstarted = P.faults c.args.parts.now.spawner } in (
       c.requires.can,
       c.requires.pass,
-      taken_begins W B (arc_value c.args.served.hub.now) terms first c.of-tally.result c.requires.pass c.requires.none c.of-tally.ensures.remaining c.of-tally.ensures.unstarted,
+      taken_begins W B T (arc_value c.args.served.hub.now) terms first c.of-tally.result c.requires.pass c.requires.none c.of-tally.ensures.remaining c.of-tally.ensures.unstarted,
       omega arith,
       stays_same (A.bound c.args.parts.now.acceptor),
       omega arith,
@@ -33,13 +34,15 @@ loop-preserved g c =
     let P = g.P.Spawner in
     let W = Worked g.L.Link.talk g.L.Link.faults g.L.Link.notices g.C.Clock.readings g.N.Sink.held g.N.Sink.faults in
     let B = g.J.Journals.begins in
+    let T = g.L.Link.talk in
     let terms = all_terms c.args.served.terms (option_map (λ p. p.now) c.args.served.prefix) (policy_of c.args.served.policy.now) in
-    let first : ServeWorld g.row.L.Denot g.row.C.Denot g.row.N.Denot = record { pass = c.args.pass.now; links = A.left c.args.parts.now.acceptor; came = A.came c.args.parts.now.acceptor; waits = A.waits c.args.parts.now.acceptor; jobs = P.jobs c.args.parts.now.spawner; given_back = P.ends c.args.parts.now.spawner; out = P.out c.args.parts.now.spawner; unstarted = P.faults c.args.parts.now.spawner } in
+    let first : ServeWorld g.row.L.Denot g.row.C.Denot g.row.N.Denot = record { pass = c.args.pass.now; links = A.left c.args.parts.now.acceptor; came = A.came c.args.parts.now.acceptor; waits = A.waits c.args.parts.now.acceptor; quiets = A.quiets c.args.parts.now.acceptor; begun = g.J.Journals.calls c.args.parts.now.journals; jobs = P.jobs c.args.parts.now.spawner; given_back = P.ends c.args.parts.now.spawner; out = P.out c.args.parts.now.spawner; unstarted = P.faults c.args.parts.now.spawner } in
     let before : Stock g.row.L.Denot g.row.C.Denot g.row.N.Denot = record { jobs = P.jobs c.loop.parts.spawner; given_back = P.ends c.loop.parts.spawner; out = P.out c.loop.parts.spawner; unstarted = P.faults c.loop.parts.spawner } in
     let after : Stock g.row.L.Denot g.row.C.Denot g.row.N.Denot = record { jobs = P.jobs c.take_ended.new.spawner; given_back = P.ends c.take_ended.new.spawner; out = P.out c.take_ended.new.spawner; unstarted = P.faults c.take_ended.new.spawner } in
-    let goes : GoesOn W B (arc_value c.args.served.hub.now) c.loop.pass before c.take_ended.new.pass after =
-    subst (λ (y : Hub). GoesOn W B y c.loop.pass before c.take_ended.new.pass after) c.deref.ensures c.take_ended.ensures.goes_on in
-    let taken = goes terms first (A.left c.loop.parts.acceptor) (A.came c.loop.parts.acceptor) (A.waits c.loop.parts.acceptor) c.loop.tally c.loop.invariant.2 in
+    let goes : GoesOn W B T (arc_value c.args.served.hub.now) c.loop.pass before c.take_ended.new.pass after =
+    subst (λ (y : Hub). GoesOn W B T y c.loop.pass before c.take_ended.new.pass after) c.deref.ensures c.take_ended.ensures.goes_on in
+    let here : ServeWorld g.row.L.Denot g.row.C.Denot g.row.N.Denot = record { pass = c.loop.pass; links = A.left c.loop.parts.acceptor; came = A.came c.loop.parts.acceptor; waits = A.waits c.loop.parts.acceptor; quiets = A.quiets c.loop.parts.acceptor; begun = g.J.Journals.calls c.loop.parts.journals; jobs = P.jobs c.loop.parts.spawner; given_back = P.ends c.loop.parts.spawner; out = P.out c.loop.parts.spawner; unstarted = P.faults c.loop.parts.spawner } in
+    let taken = goes terms first here c.loop.tally c.loop.invariant.2 in
     let t = c.in_default.ensures.taken first taken in (
       c.in_default.ensures.again,
       t.went.caller,
@@ -49,3 +52,20 @@ loop-preserved g c =
       omega (arith, c.loop.invariant.5, c.in_default.ensures.journals_later),
       (tt, tt),
     )
+
+pub returns-in-Some-take_next-clause-accepts : goal.returns-in-Some-take_next-clause-accepts
+returns-in-Some-take_next-clause-accepts g c =
+    let A = g.A.Acceptor in
+    let P = g.P.Spawner in
+    let W = Worked g.L.Link.talk g.L.Link.faults g.L.Link.notices g.C.Clock.readings g.N.Sink.held g.N.Sink.faults in
+    let B = g.J.Journals.begins in
+    let T = g.L.Link.talk in
+    let terms = all_terms c.args.served.terms (option_map (λ p. p.now) c.args.served.prefix) (policy_of c.args.served.policy.now) in
+    let first : ServeWorld g.row.L.Denot g.row.C.Denot g.row.N.Denot = record { pass = c.args.pass.now; links = A.left c.args.parts.now.acceptor; came = A.came c.args.parts.now.acceptor; waits = A.waits c.args.parts.now.acceptor; quiets = A.quiets c.args.parts.now.acceptor; begun = g.J.Journals.calls c.args.parts.now.journals; jobs = P.jobs c.args.parts.now.spawner; given_back = P.ends c.args.parts.now.spawner; out = P.out c.args.parts.now.spawner; unstarted = P.faults c.args.parts.now.spawner } in
+    let before : Stock g.row.L.Denot g.row.C.Denot g.row.N.Denot = record { jobs = P.jobs c.loop.parts.spawner; given_back = P.ends c.loop.parts.spawner; out = P.out c.loop.parts.spawner; unstarted = P.faults c.loop.parts.spawner } in
+    let after : Stock g.row.L.Denot g.row.C.Denot g.row.N.Denot = record { jobs = P.jobs c.take_ended.new.spawner; given_back = P.ends c.take_ended.new.spawner; out = P.out c.take_ended.new.spawner; unstarted = P.faults c.take_ended.new.spawner } in
+    let goes : GoesOn W B T (arc_value c.args.served.hub.now) c.loop.pass before c.take_ended.new.pass after =
+    subst (λ (y : Hub). GoesOn W B T y c.loop.pass before c.take_ended.new.pass after) c.deref.ensures c.take_ended.ensures.goes_on in
+    let here : ServeWorld g.row.L.Denot g.row.C.Denot g.row.N.Denot = record { pass = c.loop.pass; links = A.left c.loop.parts.acceptor; came = A.came c.loop.parts.acceptor; waits = A.waits c.loop.parts.acceptor; quiets = A.quiets c.loop.parts.acceptor; begun = g.J.Journals.calls c.loop.parts.journals; jobs = P.jobs c.loop.parts.spawner; given_back = P.ends c.loop.parts.spawner; out = P.out c.loop.parts.spawner; unstarted = P.faults c.loop.parts.spawner } in
+    let taken = goes terms first here c.loop.tally c.loop.invariant.2 in
+    c.in-Some-take_next.ensures.taken first taken

@@ -17,28 +17,27 @@ returns-in-Ok-clause-serving g c =
     let P = g.P.Spawner in
     let W = Worked g.L.Link.talk g.L.Link.faults g.L.Link.notices g.C.Clock.readings g.N.Sink.held g.N.Sink.faults in
     let B = g.J.Journals.begins in
+    let T = g.L.Link.talk in
     let h = arc_value c.args.served.hub.now in
     let terms = all_terms c.args.served.terms (option_map (λ p. p.now) c.args.served.prefix) (policy_of c.args.served.policy.now) in
     let own = g.N.Sink.held c.args.own.now in
     let own' = g.N.Sink.held c.finish-stopped.new.own in
-    let before : ServeWorld g.row.L.Denot g.row.C.Denot g.row.N.Denot = record { pass = c.args.pass.now; links = A.left c.args.parts.now.acceptor; came = A.came c.args.parts.now.acceptor; waits = A.waits c.args.parts.now.acceptor; jobs = P.jobs c.args.parts.now.spawner; given_back = P.ends c.args.parts.now.spawner; out = P.out c.args.parts.now.spawner; unstarted = P.faults c.args.parts.now.spawner } in
+    let before : ServeWorld g.row.L.Denot g.row.C.Denot g.row.N.Denot = record { pass = c.args.pass.now; links = A.left c.args.parts.now.acceptor; came = A.came c.args.parts.now.acceptor; waits = A.waits c.args.parts.now.acceptor; quiets = A.quiets c.args.parts.now.acceptor; begun = g.J.Journals.calls c.args.parts.now.journals; jobs = P.jobs c.args.parts.now.spawner; given_back = P.ends c.args.parts.now.spawner; out = P.out c.args.parts.now.spawner; unstarted = P.faults c.args.parts.now.spawner } in
     let none_out : Stock g.row.L.Denot g.row.C.Denot g.row.N.Denot = record { jobs = P.jobs c.await_all.new.spawner; given_back = P.ends c.await_all.new.spawner; out = P.out c.await_all.new.spawner; unstarted = P.faults c.await_all.new.spawner } in
     let all_came : Stock g.row.L.Denot g.row.C.Denot g.row.N.Denot = record { jobs = P.jobs c.accept_all.new.parts.spawner; given_back = P.ends c.accept_all.new.parts.spawner; out = P.out c.accept_all.new.parts.spawner; unstarted = P.faults c.accept_all.new.parts.spawner } in
     let all_ended : Stock g.row.L.Denot g.row.C.Denot g.row.N.Denot = record { jobs = P.jobs c.take_ended.new.spawner; given_back = P.ends c.take_ended.new.spawner; out = P.out c.take_ended.new.spawner; unstarted = P.faults c.take_ended.new.spawner } in
-    let links = A.left c.accept_all.new.parts.acceptor in
-    let came = A.came c.accept_all.new.parts.acceptor in
-    let waits = A.waits c.accept_all.new.parts.acceptor in
-    let first : ServeWorld g.row.L.Denot g.row.C.Denot g.row.N.Denot = world_of before.pass none_out before.links before.came before.waits in
-    let m : ServeWorld g.row.L.Denot g.row.C.Denot g.row.N.Denot = world_of c.take_ended.new.pass all_ended links came waits in
-    let after : ServeWorld g.row.L.Denot g.row.C.Denot g.row.N.Denot = world_of c.finish-stopped.new.pass all_ended links came waits in
-    let goes : GoesOn W B h c.accept_all.new.pass all_came c.take_ended.new.pass all_ended =
-    subst (λ (y : Hub). GoesOn W B y c.accept_all.new.pass all_came c.take_ended.new.pass all_ended) c.deref.ensures c.take_ended.ensures.goes_on in
-    let taken = goes terms first links came waits (record { remaining = Some 0; unstarted = c.in-Ok.unstarted }) c.in-Ok.ensures.accepts in
+    let beside : ServeWorld g.row.L.Denot g.row.C.Denot g.row.N.Denot = record { pass = c.accept_all.new.pass; links = A.left c.accept_all.new.parts.acceptor; came = A.came c.accept_all.new.parts.acceptor; waits = A.waits c.accept_all.new.parts.acceptor; quiets = A.quiets c.accept_all.new.parts.acceptor; begun = g.J.Journals.calls c.accept_all.new.parts.journals; jobs = P.jobs c.accept_all.new.parts.spawner; given_back = P.ends c.accept_all.new.parts.spawner; out = P.out c.accept_all.new.parts.spawner; unstarted = P.faults c.accept_all.new.parts.spawner } in
+    let first : ServeWorld g.row.L.Denot g.row.C.Denot g.row.N.Denot = world_of before.pass none_out before in
+    let m : ServeWorld g.row.L.Denot g.row.C.Denot g.row.N.Denot = world_of c.take_ended.new.pass all_ended beside in
+    let after : ServeWorld g.row.L.Denot g.row.C.Denot g.row.N.Denot = world_of c.finish-stopped.new.pass all_ended beside in
+    let goes : GoesOn W B T h c.accept_all.new.pass all_came c.take_ended.new.pass all_ended =
+    subst (λ (y : Hub). GoesOn W B T y c.accept_all.new.pass all_came c.take_ended.new.pass all_ended) c.deref.ensures c.take_ended.ensures.goes_on in
+    let taken = goes terms first beside (record { remaining = Some 0; unstarted = c.in-Ok.unstarted }) c.in-Ok.ensures.accepts in
     let stopped : Stopped h c.take_ended.new.pass c.finish-stopped.new.pass c.finish-stopped.result.answer =
     subst (λ (y : Hub). Stopped y c.take_ended.new.pass c.finish-stopped.new.pass c.finish-stopped.result.answer) c.deref-in-Ok.ensures c.finish-stopped.ensures.stopped in
-    subst (λ (e : ServeEnd). Serving W B terms (served_world h own before) (served_world h own' after) e) (sym c.done.ensures)
-    (serves_after W B h terms before after none_out own own' _ c.await_all.ensures.jobs c.await_all.ensures.gave c.await_all.ensures.later
-    (serves_whole W B h terms first m c.finish-stopped.new.pass c.in-Ok.unstarted c.finish-stopped.result.answer c.finish-stopped.result.lost own own' c.accept_all.ensures.fits c.await_all.ensures.none taken
+    subst (λ (e : ServeEnd). Serving W B T terms (served_world h own before) (served_world h own' after) e) (sym c.done.ensures)
+    (serves_after W B T h terms before after none_out own own' _ c.await_all.ensures.jobs c.await_all.ensures.gave c.await_all.ensures.later
+    (serves_whole W B T h terms first m c.finish-stopped.new.pass c.in-Ok.unstarted c.finish-stopped.result.answer c.finish-stopped.result.lost own own' c.accept_all.ensures.fits c.await_all.ensures.none taken
     (c.take_ended.ensures.none refl) stopped c.finish-stopped.ensures.records c.finish-stopped.ensures.has_line))
 
 pub returns-in-Err-clause-serving : goal.returns-in-Err-clause-serving
@@ -47,27 +46,26 @@ returns-in-Err-clause-serving g c =
     let P = g.P.Spawner in
     let W = Worked g.L.Link.talk g.L.Link.faults g.L.Link.notices g.C.Clock.readings g.N.Sink.held g.N.Sink.faults in
     let B = g.J.Journals.begins in
+    let T = g.L.Link.talk in
     let h = arc_value c.args.served.hub.now in
     let terms = all_terms c.args.served.terms (option_map (λ p. p.now) c.args.served.prefix) (policy_of c.args.served.policy.now) in
     let own = g.N.Sink.held c.args.own.now in
     let own' = g.N.Sink.held c.finish-told.new.own in
-    let before : ServeWorld g.row.L.Denot g.row.C.Denot g.row.N.Denot = record { pass = c.args.pass.now; links = A.left c.args.parts.now.acceptor; came = A.came c.args.parts.now.acceptor; waits = A.waits c.args.parts.now.acceptor; jobs = P.jobs c.args.parts.now.spawner; given_back = P.ends c.args.parts.now.spawner; out = P.out c.args.parts.now.spawner; unstarted = P.faults c.args.parts.now.spawner } in
+    let before : ServeWorld g.row.L.Denot g.row.C.Denot g.row.N.Denot = record { pass = c.args.pass.now; links = A.left c.args.parts.now.acceptor; came = A.came c.args.parts.now.acceptor; waits = A.waits c.args.parts.now.acceptor; quiets = A.quiets c.args.parts.now.acceptor; begun = g.J.Journals.calls c.args.parts.now.journals; jobs = P.jobs c.args.parts.now.spawner; given_back = P.ends c.args.parts.now.spawner; out = P.out c.args.parts.now.spawner; unstarted = P.faults c.args.parts.now.spawner } in
     let none_out : Stock g.row.L.Denot g.row.C.Denot g.row.N.Denot = record { jobs = P.jobs c.await_all.new.spawner; given_back = P.ends c.await_all.new.spawner; out = P.out c.await_all.new.spawner; unstarted = P.faults c.await_all.new.spawner } in
     let at_halt : Stock g.row.L.Denot g.row.C.Denot g.row.N.Denot = record { jobs = P.jobs c.accept_all.new.parts.spawner; given_back = P.ends c.accept_all.new.parts.spawner; out = P.out c.accept_all.new.parts.spawner; unstarted = P.faults c.accept_all.new.parts.spawner } in
     let all_ended : Stock g.row.L.Denot g.row.C.Denot g.row.N.Denot = record { jobs = P.jobs c.take_ended-in-Err.new.spawner; given_back = P.ends c.take_ended-in-Err.new.spawner; out = P.out c.take_ended-in-Err.new.spawner; unstarted = P.faults c.take_ended-in-Err.new.spawner } in
-    let links = A.left c.accept_all.new.parts.acceptor in
-    let came = A.came c.accept_all.new.parts.acceptor in
-    let waits = A.waits c.accept_all.new.parts.acceptor in
-    let first : ServeWorld g.row.L.Denot g.row.C.Denot g.row.N.Denot = world_of before.pass none_out before.links before.came before.waits in
-    let m : ServeWorld g.row.L.Denot g.row.C.Denot g.row.N.Denot = world_of c.accept_all.new.pass at_halt links came waits in
-    let after : ServeWorld g.row.L.Denot g.row.C.Denot g.row.N.Denot = world_of c.take_ended-in-Err.new.pass all_ended links came waits in
+    let beside : ServeWorld g.row.L.Denot g.row.C.Denot g.row.N.Denot = record { pass = c.accept_all.new.pass; links = A.left c.accept_all.new.parts.acceptor; came = A.came c.accept_all.new.parts.acceptor; waits = A.waits c.accept_all.new.parts.acceptor; quiets = A.quiets c.accept_all.new.parts.acceptor; begun = g.J.Journals.calls c.accept_all.new.parts.journals; jobs = P.jobs c.accept_all.new.parts.spawner; given_back = P.ends c.accept_all.new.parts.spawner; out = P.out c.accept_all.new.parts.spawner; unstarted = P.faults c.accept_all.new.parts.spawner } in
+    let first : ServeWorld g.row.L.Denot g.row.C.Denot g.row.N.Denot = world_of before.pass none_out before in
+    let m : ServeWorld g.row.L.Denot g.row.C.Denot g.row.N.Denot = world_of c.accept_all.new.pass at_halt beside in
+    let after : ServeWorld g.row.L.Denot g.row.C.Denot g.row.N.Denot = world_of c.take_ended-in-Err.new.pass all_ended beside in
     let stopped : Stopped h c.accept_all.new.pass c.finish-told.new.pass c.finish-told.result.answer =
     subst (λ (y : Hub). Stopped y c.accept_all.new.pass c.finish-told.new.pass c.finish-told.result.answer) c.deref-hub.ensures c.finish-told.ensures.stopped in
     let ended : TakesIn W h c.finish-told.new.pass at_halt c.take_ended-in-Err.new.pass all_ended =
     subst (λ (y : Hub). TakesIn W y c.finish-told.new.pass at_halt c.take_ended-in-Err.new.pass all_ended) c.deref-hub.ensures c.take_ended-in-Err.ensures.takes_in in
-    subst (λ (e : ServeEnd). Serving W B terms (served_world h own before) (served_world h own' after) e) (sym c.end_of.ensures)
-    (serves_after W B h terms before after none_out own own' _ c.await_all.ensures.jobs c.await_all.ensures.gave c.await_all.ensures.later
-    (serves_halted W B h terms first m c.finish-told.new.pass c.take_ended-in-Err.new.pass all_ended c.in-Err.halt c.finish-told.result.answer c.finish-told.result.lost own own' c.await_all.ensures.none c.in-Err.ensures.accepts stopped
+    subst (λ (e : ServeEnd). Serving W B T terms (served_world h own before) (served_world h own' after) e) (sym c.end_of.ensures)
+    (serves_after W B T h terms before after none_out own own' _ c.await_all.ensures.jobs c.await_all.ensures.gave c.await_all.ensures.later
+    (serves_halted W B T h terms first m c.finish-told.new.pass c.take_ended-in-Err.new.pass all_ended c.in-Err.halt c.finish-told.result.answer c.finish-told.result.lost own own' c.await_all.ensures.none c.in-Err.ensures.accepts stopped
     ended (c.take_ended-in-Err.ensures.none refl) c.finish-told.ensures.records c.finish-told.ensures.has_line))
 
 pub returns-in-Ok-clause-failed : goal.returns-in-Ok-clause-failed
