@@ -1,13 +1,13 @@
 -- Which lines are good, and what they say.
-use Rattle.std.specs.Prelude.{◌≡◌, ◌+◌, ℕ, nat_lt, Bool, false, ◌||◌, List, [], ◌∷◌, length, ⊤}
-use Rattle.bsc_text.specs.Lines.{line_in}
+use Rattle.std.specs.Prelude.{◌≡◌, ◌+◌, ℕ, Bool, false, List, [], ◌∷◌, length, ⊤}
+use Rattle.bsc_text.specs.Lines.{is_past, line_in}
 use Rattle.bsc_journal.specs.declared.said.Said.{Said}
 use Rattle.bsc_journal.specs.Saying.{Says}
 use Rattle.bsc_journal.specs.Journals.{most_in_line, most_octets}
 
--- whether a piece that stands after so many octets is too big: its line is too long, or it goes past the most octets
+-- whether a piece of a journal that stands after so many octets is too big: it is past the limits of a journal
 abbrev pub is_too_big : ℕ → List ℕ → Bool
-is_too_big before piece = nat_lt most_in_line (length (line_in piece)) || nat_lt most_octets (before + length piece)
+is_too_big before piece = is_past most_in_line most_octets before piece
 
 -- A piece that stands after so many octets is good, and says this.
 pub record IsGood (before : ℕ) (piece : List ℕ) (s : Said) : Type 0 where

@@ -1,2 +1,3 @@
 mod Callers
+mod Below
 pub mod Common

@@ -6,6 +6,7 @@ use Rattle.bsc_lines.specs.declared.denial.Denial.{Denial}
 use Rattle.bsc_lines.specs.Denials.{denial_line}
 use Rattle.bsc_lines.specs.Lines.{entry_line}
 use Rattle.bsc_edge.specs.declared.fault.LinkFault.{LinkFault}
+use Rattle.bsc_notes.specs.Octets.{CallHasOctets, DenialHasOctets}
 
 -- A note: the entry that a call made, with its place in the history; or what a policy denied.
 pub data Note : Type 0 where
@@ -42,8 +43,17 @@ abbrev pub RecordsPart : Option (List ℕ) → Option (List ℕ) → List Note �
 RecordsPart old new notes =
     (n : ℕ) × (length (lines_of (all_but_last notes)) ≤ n) × (n ≤ length (lines_of notes)) × Appends old new (take n (lines_of notes))
 
+-- The octets of a note are octets.
+abbrev pub NoteHasOctets : Note → Type 0
+NoteHasOctets (made at e) = CallHasOctets e.call
+NoteHasOctets (denied d) = DenialHasOctets d
+
+abbrev pub NotesHaveOctets : List Note → Type 0
+NotesHaveOctets [] = ⊤
+NotesHaveOctets (n ∷ ns) = NoteHasOctets n × NotesHaveOctets ns
+
 -- What a journal holds grew by the lines of these notes, in order, where it is told; and where the last line wasn't put, by
--- a first part of them.
+-- a first part of them. And the octets of the notes are octets, so that their lines can be read back.
 abbrev pub Records : Option (List ℕ) → Option (List ℕ) → List Note → Option LinkFault → Type 0
-Records old new notes None = Appends old new (lines_of notes)
-Records old new notes (Some fault) = RecordsPart old new notes
+Records old new notes None = Appends old new (lines_of notes) × NotesHaveOctets notes
+Records old new notes (Some fault) = RecordsPart old new notes × NotesHaveOctets notes

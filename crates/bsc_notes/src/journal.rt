@@ -3,10 +3,11 @@ ghost use Rattle.std.specs.Prelude.{◌≡◌, ◌≤◌, true, false, None, Err
 ghost use Rattle.std.specs.Io.KnownBytes.{Appends};
 ghost use Rattle.bsc_outside.specs.Faults.{HasRisen, PutsPrefix};
 ghost use Rattle.bsc_edge.specs.declared.fault.LinkFault.{LinkFault};
-ghost use Rattle.bsc_notes.specs.Notes.{line_of};
+ghost use Rattle.bsc_notes.specs.Notes.{NoteHasOctets, line_of};
 ghost use Rattle.bsc_notes.specs.Noting.{note_of};
 
 use crate::noted::Noted;
+use crate::octets::has_octets;
 use crate::writing::line_of;
 use bsc_edge::LinkFault;
 use bsc_outside::Sink;
@@ -25,8 +26,10 @@ pub trait Journal {
     /// Whether lines are made at all.
     ghost makes_lines: { Bool };
 
-    /// Puts the line of what is noted. One that can't be put is there in part, or not at all.
+    /// Puts the line of what is noted. One that can't be put is there in part, or not at all. The octets of what is noted are
+    /// octets.
     fn note(&mut self, alloc: Global, noted: &Noted<'_>) -> Result<(), LinkFault>
+        ensures octets { NoteHasOctets (note_of noted.now) }
         ensures made { IsErr result → makes_lines ≡ true }
         ensures later { faults self.old ≤ faults self.new }
         ensures failed { result ≡ Err LinkFault.Failed → HasRisen (faults self.old) (faults self.new) }
@@ -45,7 +48,8 @@ impl Journal for NoJournal {
 
     ghost makes_lines = { false };
 
-    fn note(&mut self, _alloc: Global, _noted: &Noted<'_>) -> Result<(), LinkFault> {
+    fn note(&mut self, _alloc: Global, noted: &Noted<'_>) -> Result<(), LinkFault> {
+        has_octets(noted);
         Ok(())
     }
 }
@@ -58,6 +62,7 @@ impl<K: Sink> Journal for K {
     ghost makes_lines = { true };
 
     fn note(&mut self, alloc: Global, noted: &Noted<'_>) -> Result<(), LinkFault> {
+        has_octets(noted);
         let Ok(line) = line_of(alloc, noted) else {
             return Err(LinkFault::NoMemory);
         };

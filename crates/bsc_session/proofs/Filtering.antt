@@ -10,14 +10,14 @@ use Rattle.bsc_octets.specs.declared.vmac.Vmac.{Vmac}
 use Rattle.bsc_policy.specs.declared.policy.Policy.{Policy}
 use Rattle.bsc_edge.specs.declared.fault.LinkFault.{LinkFault}
 use Rattle.bsc_lines.specs.declared.denial.Denial.{Denial}
-use Rattle.bsc_notes.specs.Notes.{HasLine, Note, Records, all_but_last, denied, lines_of}
+use Rattle.bsc_notes.specs.Notes.{HasLine, Note, Records, RecordsPart, all_but_last, denied, lines_of}
 use Rattle.bsc_history.specs.declared.ending.End.{End}
 use Rattle.bsc_session.specs.Puts.{HasPut}
 use Rattle.bsc_session.specs.Guarding.{denials, denials_by, denied_frame, if_any, let_through}
 use Rattle.bsc_session.specs.Standings.{Standing, Terms}
 use Rattle.bsc_session.specs.Taking.{last_alone, last_of, noted_last, noted_of, passing}
 use Rattle.bsc_session.proofs.Lists.{HasPut-append}
-use Rattle.bsc_session.proofs.Recording.{lines-append, records_on}
+use Rattle.bsc_session.proofs.Recording.{lines-append, octets-append, records_on}
 
 pub let_through-append : (policy : Option Policy) (to : Option Vmac) (xs ys : List (List ℕ)) → let_through policy to (xs ++ ys) ≡ let_through policy to xs ++ let_through policy to ys
 let_through-append None to xs ys = refl
@@ -106,9 +106,12 @@ records_more a b c ns [] (Some fault) h k line = absurd line
 records_more a b c ns (m ∷ ms) (Some fault) h k line =
     let low = length-lines ns (all_but_last (m ∷ ms)) in
     let high = length-lines ns (m ∷ ms) in
-    let first = ap (λ w. length (lines_of w)) (last-append ns m ms) in (
-      length (lines_of ns) + k.0,
-      omega (arith, low, first, k.1),
-      omega (arith, high, k.2),
-      subst (Appends a c) (sym (ap (take (length (lines_of ns) + k.0)) (lines-append ns (m ∷ ms)) ∙ take-append-add (lines_of ns) (lines_of (m ∷ ms)) k.0)) (Appends-trans a b c (lines_of ns) (take k.0 (lines_of (m ∷ ms))) h k.3),
-    )
+    let first = ap (λ w. length (lines_of w)) (last-append ns m ms) in
+    let part : RecordsPart b c (m ∷ ms) = k.0 in
+    let all : RecordsPart a c (ns ++ m ∷ ms) = (
+      length (lines_of ns) + part.0,
+      omega (arith, low, first, part.1),
+      omega (arith, high, part.2),
+      subst (Appends a c) (sym (ap (take (length (lines_of ns) + part.0)) (lines-append ns (m ∷ ms)) ∙ take-append-add (lines_of ns) (lines_of (m ∷ ms)) part.0)) (Appends-trans a b c (lines_of ns) (take part.0 (lines_of (m ∷ ms))) h.0 part.3),
+    ) in
+    (all, octets-append ns (m ∷ ms) h.1 k.1)

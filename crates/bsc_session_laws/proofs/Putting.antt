@@ -2,6 +2,7 @@
 use Rattle.std.proofs.Common.{◌≡◌, ℕ, Bool, true, false, cond, List, [], ◌∷◌, ◌++◌, Option, Some, None, Result, Ok, Err, refl, ap, sym, ◌∙◌, append-nil}
 use Rattle.std.proofs.lemmas.Grind.{flat_map-append}
 use Rattle.std.proofs.lemmas.List.Elements.{filter-append}
+use Rattle.bsc_octets.specs.Functions.{is_npdu, npdus}
 use Rattle.bsc_history.specs.declared.ending.End.{End}
 use Rattle.bsc_history.specs.declared.entry.Entry.{Entry}
 use Rattle.bsc_history.specs.declared.reply.Reply.TheVariants.{Joined, Refused}
@@ -28,8 +29,7 @@ use Rattle.bsc_session.specs.Talk.{Session, journal_of}
 use Rattle.bsc_session.specs.Turns.{Turn, after, said_after, said_in}
 use Rattle.bsc_session_laws.specs.Policies.{PolicyIsFollowed, put_in as taken_in}
 use Rattle.bsc_session_laws.specs.Npdus.{NpdusAreTaken}
-use Rattle.bsc_node_identity.specs.Npdus.{is_npdu, npdus}
-use Rattle.bsc_node_identity.proofs.OwnOctets.{PutsNone, none-step}
+use Rattle.bsc_accept.proofs.OwnOctets.{PutsNone, none-step}
 use Rattle.bsc_node_links.specs.Talks.{put_by, put_in}
 
 -- ---- what the machine wants

@@ -1,7 +1,7 @@
 -- The Encapsulated-NPDUs that a session puts.
 use Rattle.std.specs.Prelude.{◌≡◌, ℕ, List}
+use Rattle.bsc_octets.specs.Functions.{npdus}
 use Rattle.bsc_edge.specs.declared.said.Said.{Said}
-use Rattle.bsc_node_identity.specs.Npdus.{npdus}
 use Rattle.bsc_node_links.specs.Talks.{put_in}
 use Rattle.bsc_session.specs.Course.{SessionCourse, end_of}
 use Rattle.bsc_session.specs.Guarding.{let_through}
