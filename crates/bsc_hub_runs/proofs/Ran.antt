@@ -1,5 +1,5 @@
 -- Each hub that the command made has had a run.
-use Rattle.std.proofs.Common.{inl, inr, ◌≡◌, ◌⊎◌, ℕ, List, [], ◌∷◌, ◌++◌, Option, Some, None, Result, refl, ap, sym, subst, ◌∙◌, arith, append-nil}
+use Rattle.std.proofs.Common.{inl, inr, ◌≡◌, ◌⊎◌, ℕ, List, [], ◌∷◌, ◌++◌, Option, Some, None, Result, Ok, Err, refl, ap, sym, subst, ◌∙◌, arith, append-nil}
 use Rattle.std.specs.Arc.{arc_value}
 use Rattle.bsc_history.specs.declared.counts.Counts.{Counts}
 use Rattle.bsc_history.specs.declared.entry.Entry.{Entry}
@@ -14,10 +14,11 @@ use Rattle.bsc_hub.specs.Calls.{stop_made}
 use Rattle.bsc_hub.specs.Passing.{Passed, about_of}
 use Rattle.bsc_hub.specs.Whole.{IsFirst}
 use Rattle.bsc_hub.proofs.Following.{passed_none}
+use Rattle.bsc_edge.specs.declared.begun.Begun.{Begun as BegunCall}
 use Rattle.bsc_edge.specs.declared.notice.Notice.{Notice}
 use Rattle.bsc_edge.specs.declared.said.Said.{Said}
 use Rattle.bsc_edge.specs.Told.{Grows}
-use Rattle.bsc_notes.specs.Notes.{HasLine, Note}
+use Rattle.bsc_notes.specs.Notes.{HasLine, Note, NotesHaveOctets}
 use Rattle.bsc_session.specs.declared.job.SessionJob.{SessionJob}
 use Rattle.bsc_session.specs.declared.session_end.SessionEnd.{SessionEnd}
 use Rattle.bsc_session.specs.Jobs.{Worked}
@@ -35,6 +36,10 @@ line_there : (notes : List Note) → HasLine notes None
 line_there [] = tt
 line_there (n ∷ notes) = tt
 
+stop_has_octets : (n : ℕ) (stop : Result (Told Counts) AlreadyStopped) → NotesHaveOctets (stop_notes n stop)
+stop_has_octets n (Ok t) = (tt, tt)
+stop_has_octets n (Err already) = tt
+
 grows_none : {A : Type 0} (old new : Option (List A)) → new ≡ old → Grows old new []
 grows_none old None e = tt
 grows_none None (Some ys) e = absurd (let bad : Some ys ≡ None = e in cc)
@@ -50,15 +55,15 @@ module _ {L C N : Type 0} (talk : L → Option (List Said)) (faults : L → ℕ)
   Works = Worked talk faults notices readings held unput
 
   abbrev Tells : HubTelling L C N
-  Tells = telling Works begins held unput
+  Tells = telling Works begins talk held unput
 
   -- what is beside a hub's own pass where nothing is told and no job is out
   abbrev bare : Pass → ServeWorld L C N
-  bare p = record { pass = p; links = None; came = None; waits = None; jobs = None; given_back = None; out = []; unstarted = 0 }
+  bare p = record { pass = p; links = None; came = None; waits = None; quiets = 0; begun = None; jobs = None; given_back = None; out = []; unstarted = 0 }
 
   -- a hub that its first pass stopped, and nothing else, was served with no link
   abbrev alone : (h : Hub) (terms : Terms) (p q : Pass) (stop : Result (Told Counts) AlreadyStopped) → Passed h p [] (stop_made (number_of p) stop) q → StopAnswers q stop
-      → Serving Works begins (record terms { sessions = None }) (served_world h None (bare p)) (served_world h None (bare q)) AcceptFault
+      → Serving Works begins talk (record terms { sessions = None }) (served_world h None (bare p)) (served_world h None (bare q)) AcceptFault
   alone h terms p q stop w answers = record {
     events = [];
     cut = None;
@@ -68,12 +73,17 @@ module _ {L C N : Type 0} (talk : L → Option (List Said)) (faults : L → ℕ)
     late = [];
     lost = None;
     cut_last = tt;
+    cut_so = tt;
     hub = refl;
     left = tt;
     came = tt;
     within = tt;
     asks = 0;
     asked = tt;
+    idle = 0;
+    quiet = inl (omega arith);
+    answered = inl (omega arith);
+    begun = tt;
     jobs = tt;
     fates = tt;
     returned = inl (omega arith);
@@ -90,7 +100,7 @@ module _ {L C N : Type 0} (talk : L → Option (List Said)) (faults : L → ℕ)
     stopped = answers;
     drew = w.drawn refl ∙ sym (append-nil (drawn_list p));
     stop_last = tt;
-    records = tt;
+    records = (tt, stop_has_octets (number_of p) stop);
     has_line = line_there (stop_notes (number_of p) stop);
     ends = refl;
   }
@@ -141,19 +151,19 @@ module _ {L C N : Type 0} (talk : L → Option (List Said)) (faults : L → ℕ)
     stopped_ran : HubRunsAre talk faults notices readings held unput begins → StopsAlone course → after.jobs ≡ before.jobs → Ran
     stopped_ran are stops same = bare_ran (stopped_bare are (arc_value x.hub) (terms_of asked) x.first x.last first_is x.new.2 stops) same
 
-    bound_ran : HubRunsAre talk faults notices readings held unput begins → (titled held' : Option (List ℕ)) → Bound Tells course asked titled held' before after s → Ran
-    bound_ran are titled held' b =
+    bound_ran : HubRunsAre talk faults notices readings held unput begins → (calls : Option (List BegunCall)) (titled held' : Option (List ℕ)) → Bound Tells course asked titled held' (record before { begun = calls }) after s → Ran
+    bound_ran are calls titled held' b =
         let k = are _ _ _ b.end first_is x.new.2 b.serving in
         (k.0, record { about = k.1.about ∙ x.about; history = k.1.history; jobs = _; taken = b.serving.jobs; sessions = k.1.sessions })
 
-    titling_ran : HubRunsAre talk faults notices readings held unput begins → (begun own : N) → Titling Tells course asked begun own before after s → Ran
-    titling_ran are begun own (inl u) = stopped_ran are u.stops u.untouched.jobs
-    titling_ran are begun own (inr (titled, put, inl b)) = bare_ran (unseen_bare (arc_value x.hub) x.first x.last x.caller.1 x.new.1 b.0.pass) b.0.jobs
-    titling_ran are begun own (inr (titled, put, inr b)) = bound_ran are titled (held own) b
+    titling_ran : HubRunsAre talk faults notices readings held unput begins → (calls : Option (List BegunCall)) (begun own : N) → Titling Tells course asked begun own (record before { begun = calls }) after s → Ran
+    titling_ran are calls begun own (inl u) = stopped_ran are u.stops u.untouched.jobs
+    titling_ran are calls begun own (inr (titled, put, inl b)) = bare_ran (unseen_bare (arc_value x.hub) x.first x.last x.caller.1 x.new.1 b.0.pass) b.0.jobs
+    titling_ran are calls begun own (inr (titled, put, inr b)) = bound_ran are calls titled (held own) b
 
-    ran : HubRunsAre talk faults notices readings held unput begins → Unbegun course place.own before after s ⊎ Begun Tells course asked place.own before after s → Ran
+    ran : HubRunsAre talk faults notices readings held unput begins → Unbegun course asked place.own before after s ⊎ Begun Tells course asked place.own before after s → Ran
     ran are (inl u) = stopped_ran are u.stops u.untouched.jobs
-    ran are (inr b) = titling_ran are b.begun b.own b.went
+    ran are (inr b) = titling_ran are b.calls b.begun b.own b.went
 
   pub hubs_ran : HubRunsAre talk faults notices readings held unput begins → HubsRan talk faults notices readings held unput begins
   hubs_ran are asked place before after s x = ran asked place before after s x are x.went

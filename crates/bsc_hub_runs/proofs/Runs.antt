@@ -65,7 +65,7 @@ module _ {L C N : Type 0} (talk : L → Option (List Said)) (faults : L → ℕ)
       subst (λ (g : Hub). (s : SessionOf (about_of g) (entries (seen q))) × IsSessionOf talk faults notices readings held unput j s) i.hub
       (k.0, record { left = d.0; worked = d.1; terms = k.1; said = k.2; ended = k.3 })
 
-  sessions_of : ServingGivesSessions → (h : Hub) (terms : Terms) (p x q : Pass) (G : List Entry) (events : List (Event L C N)) → AreFates begins h terms p x events
+  sessions_of : ServingGivesSessions → (h : Hub) (terms : Terms) (p x q : Pass) (G : List Entry) (events : List (Event L C N)) → AreFates begins talk h terms p x events
       → AllByRecursion (HasEndedAtLast Works G q) (jobs_of events) → (ss : List (SessionOf (about_of h) (entries (seen q)))) × Same (about_of h) (entries (seen q)) (jobs_of events) ss
   sessions_of gives h terms p x q G [] f d = ([], tt)
   sessions_of gives h terms p x q G (arrived l (started j) ∷ more) f d =
@@ -89,7 +89,7 @@ module _ {L C N : Type 0} (talk : L → Option (List Said)) (faults : L → ℕ)
 
   -- ---- the run
 
-  pub hub_runs_are : ServingGivesSessions → AllButStopAreOfJobs Works begins → JobsEndAtLast Works begins → JobsAreApart Works begins
+  pub hub_runs_are : ServingGivesSessions → AllButStopAreOfJobs Works begins talk → JobsEndAtLast Works begins talk → JobsAreApart Works begins talk
       → HubRunsAre talk faults notices readings held unput begins
   hub_runs_are gives of_jobs have_ended are_apart terms before after end first mine s =
       let p = before.beside.pass in

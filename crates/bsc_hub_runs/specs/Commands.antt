@@ -29,5 +29,5 @@ module _ {L C N : Type 0} (talk : L → Option (List Said)) (faults : L → ℕ)
   -- Each hub that the command made has had a run, whatever the status is. Where it wasn't served there are no sessions.
   abbrev pub HubsRan : Type 0
   HubsRan = (asked : HubTerms) (place : HubPlace N) (before after : HubWorld L C N) (s : ℕ)
-      → (x : HubRuns (telling (Worked talk faults notices readings held unput) begins held unput) asked place before after s)
+      → (x : HubRuns (telling (Worked talk faults notices readings held unput) begins talk held unput) asked place before after s)
       → (r : HubRun) × IsRunBy asked before after x.last r

@@ -22,7 +22,7 @@ module _ {L C N : Type 0} (talk : L → Option (List Said)) (faults : L → ℕ)
     pub before : HubWorld L C N
     pub after : HubWorld L C N
     pub status : ℕ
-    pub runs : HubRuns (telling (Worked talk faults notices readings held unput) begins held unput) asked place before after status
+    pub runs : HubRuns (telling (Worked talk faults notices readings held unput) begins talk held unput) asked place before after status
 
   abbrev pub IsItsRun : MadeByCommand → HubRun → Type 0
   IsItsRun x r = IsRunBy talk faults notices readings held unput begins x.asked x.before x.after x.runs.last r

@@ -47,7 +47,7 @@ module _ {L C N : Type 0} (talk : L → Option (List Said)) (faults : L → ℕ)
   -- The run is that of a hub which was served so: it is of this hub, its history is what the hub's own pass has seen at last, with
   -- the Stop, and its sessions are those of the jobs that the spawner took, in order.
   pub record IsRunOf (terms : Terms) (before after : ServedWorld L C N) (end : ServeEnd)
-      (s : Serving (Worked talk faults notices readings held unput) begins terms before after end) (r : HubRun) : Type 0 where
+      (s : Serving (Worked talk faults notices readings held unput) begins talk terms before after end) (r : HubRun) : Type 0 where
     pub about : r.about ≡ about_of before.hub
     pub history : r.history ≡ entries (seen after.beside.pass)
     pub sessions : AreSessionsOf talk faults notices readings held unput (jobs_of s.events) r.sessions
@@ -56,5 +56,5 @@ module _ {L C N : Type 0} (talk : L → Option (List Said)) (faults : L → ℕ)
   abbrev pub HubRunsAre : Type 0
   HubRunsAre = (terms : Terms) (before after : ServedWorld L C N) (end : ServeEnd) → IsFirst before.beside.pass
       → own_list before.beside.pass ≡ []
-      → (s : Serving (Worked talk faults notices readings held unput) begins terms before after end) → (r : HubRun)
+      → (s : Serving (Worked talk faults notices readings held unput) begins talk terms before after end) → (r : HubRun)
       × IsRunOf terms before after end s r

@@ -6,7 +6,7 @@ use Rattle.std.proofs.lemmas.Option.{same_Some}
 use Rattle.bsc_history.specs.declared.connection.Connection.{Connection}
 use Rattle.bsc_history.specs.Ends.{joined, live, numbered}
 use Rattle.bsc_history.proofs.Common.{joined-append}
-use Rattle.bsc_history.proofs.Connections.{joined_apart, joined_in}
+use Rattle.bsc_history.proofs.Connections.{found_in, joined_apart, joined_in, numbered_so}
 use Rattle.bsc_history.proofs.Lists.{In, In-left as In-front}
 use Rattle.bsc_node.specs.declared.node_event.NodeEvent.TheVariants.{Came}
 use Rattle.bsc_node.specs.Conditions.{has_opened}
@@ -22,7 +22,6 @@ use Rattle.bsc_network_of_runs.specs.Deliveries.{CameByHub, CameOverHub, Deliver
 use Rattle.bsc_network_of_runs.specs.Networks.{AreLinks, Carries, LinkEnd, Network, OtherEnd, SessionName, Traffic, of_node, of_session}
 use Rattle.bsc_network_of_runs.specs.Nodes.{NodeRun, Sending, log_of}
 use Rattle.bsc_network_of_runs.specs.Reached.{EventsAreReached}
-use Rattle.bsc_network_of_runs.proofs.Entering.{found_in, numbered_so}
 use Rattle.bsc_network_of_runs.proofs.Naming.{ConnectsLaw, In-left, is_connect_so, one_name, was_given, who_asked}
 use Rattle.bsc_network_of_runs.proofs.Passing.{GivenLaw}
 use Rattle.bsc_network_of_runs.proofs.Peering.{born, own_now, put_as_born}

@@ -22,7 +22,7 @@ use Rattle.bsc_node.specs.Logs.{Made, Line, came, did, Log}
 use Rattle.bsc_node.specs.Node.{goes_on}
 use Rattle.bsc_node.proofs.Following.{goes_on-is}
 use Rattle.bsc_node_identity.specs.Naming.{WasNamed, named_by}
-use Rattle.bsc_node_links.proofs.Lists.{drop-behind, drop-more, got-below, got-split}
+use Rattle.bsc_node_links.proofs.Lists.{drop-behind, drop-more}
 use Rattle.bsc_node_links.proofs.Lives.{until-none}
 use Rattle.bsc_node_links.specs.Lives.{HasBegun, LinkLife, given_by, given_over, life_of, lines_since, put_by, put_over, until_anew}
 use Rattle.bsc_network_of_runs.specs.Nodes.{HasNow}
@@ -30,6 +30,7 @@ use Rattle.bsc_network_of_runs.proofs.Hearing.{given-here}
 use Rattle.bsc_network_of_runs.proofs.Lives.{got-either, none-later}
 use Rattle.bsc_network_of_runs.proofs.Members.{In-given, In-gives, In-split}
 use Rattle.bsc_network_of_runs.proofs.Naming.{puts_it}
+use Rattle.bsc_lemmas.proofs.Lists.{got-split, got-within}
 
 -- ---- lists
 
@@ -67,7 +68,7 @@ until-is L x has =
 
 -- That is the same in a longer log.
 pub born-same : (L B : Log) (rest : List Line) (x : LinkLife) → L ≡ B ++ rest → HasBegun B x → take x.began L ≡ take x.began B
-born-same L B rest x is begun = (let below = got-below B x.began begun.line begun.at in ap (take x.began) is ∙ take-first x.began B rest (omega arith))
+born-same L B rest x is begun = (let below = got-within B x.began begun.line begun.at in ap (take x.began) is ∙ take-first x.began B rest (omega arith))
 
 -- A link that is the newest of its name behind some lines by which none begins was so before them.
 pub has_before : (B C : Log) (x : LinkLife) → HasNow (B ++ C) x → list_any (begins x.name) C ≡ false → HasNow B x
@@ -76,7 +77,7 @@ has_before B C x has none = by (got-either B C x.began has.begun.line has.begun.
     by : (slice_get B x.began ≡ Some has.begun.line) ⊎ ((j : ℕ) × (x.began ≡ length B + j) × (slice_get C j ≡ Some has.begun.line)) → HasNow B x
     by (inr (j, is, at)) = absurd (none-later (begins x.name) C j has.begun.line none at has.begun.begins_it)
     by (inl at) =
-        let below = got-below B x.began has.begun.line at in
+        let below = got-within B x.began has.begun.line at in
         let since : list_any (begins x.name) (lines_since B x ++ C) ≡ false = ap (list_any (begins x.name)) (sym (drop-more (x.began + 1) B C (omega arith))) ∙ has.since in
         record {
           begun = record { line = has.begun.line; at = at; begins_it = has.begun.begins_it };
@@ -99,7 +100,7 @@ given_in_life : (L B : Log) (rest : List Line) (x : LinkLife) (e : TimedEvent) (
 given_in_life L B rest x e o split is has =
     let name = x.name in
     let D = lines_since B x in
-    let below = got-below B x.began has.begun.line has.begun.at in
+    let below = got-within B x.began has.begun.line has.begun.at in
     let since : lines_since L x ≡ D ++ came e ∷ rest = ap (λ (l : Log). lines_since l x) split ∙ drop-more (x.began + 1) B (came e ∷ rest) (omega arith) in
     let life : life_of L x ≡ D ++ came e ∷ until_anew name rest = ap (until_anew name) since ∙ until-none name D (came e ∷ rest) has.since in
     let here : In o (given_by name (came e)) = subst (In o) (sym (given-here e name o is)) (inl refl) in
@@ -160,7 +161,7 @@ put_at L y o begun h =
     let p = puts_it name o g.from g.gives in
     let split = In-split g.from (life_of L y) g.among in
     let u = until-split name (lines_since L y) split.0 g.from split.1 split.2 in
-    let below = got-below L y.began begun.line begun.at in
+    let below = got-within L y.began begun.line begun.at in
     let first = take y.began L in
     let length_is : length first ≡ y.began = length-taken y.began L (omega arith) in
     let line : did (Put p.0 o) ≡ did (Put name o) = ap (λ (n : LinkName). did (Put n o)) p.2 in

@@ -1,9 +1,10 @@
 -- What a session puts was put by a node for a Send, and for no other that the session puts.
-use Rattle.std.proofs.Common.{◌≡◌, ℕ, true, List, [], ◌++◌, length, take, Option, Some, None, refl, ap, sym, subst, ◌∙◌}
+use Rattle.std.proofs.Common.{◌≡◌, ℕ, true, List, ◌++◌, length, take, Option, Some, None, refl, ap, sym, subst, ◌∙◌}
 use Rattle.std.specs.Prelude.{slice_get}
 use Rattle.std.proofs.lemmas.List.Elements.{filter-append}
 use Rattle.std.proofs.lemmas.Option.{same_Some}
 use Rattle.bsc_octets.specs.declared.vmac.Vmac.{Vmac}
+use Rattle.bsc_octets.specs.Functions.{is_npdu, npdus}
 use Rattle.bsc_node.specs.declared.node_event.NodeEvent.TheVariants.{Send}
 use Rattle.bsc_node.specs.declared.timed_event.TimedEvent.{TimedEvent}
 use Rattle.bsc_node.specs.Events.{follows}
@@ -12,21 +13,17 @@ use Rattle.bsc_node.specs.Logs.{Made, Line, came, Log}
 use Rattle.bsc_node.specs.Node.{goes_on}
 use Rattle.bsc_node.specs.Ways.{Way, way}
 use Rattle.bsc_node.proofs.Following.{goes_on-is}
-use Rattle.bsc_node_links.proofs.Lists.{got-split}
 use Rattle.bsc_node_links.specs.Lives.{LinkLife, put_over}
 use Rattle.bsc_node_links.specs.Talks.{given_in, put_in}
 use Rattle.bsc_network_of_runs.specs.Deliveries.{CameUp, SessionIn, SessionsPutOnce, SessionsPutWhatWasSent, beside}
 use Rattle.bsc_network_of_runs.specs.Hubs.{HubRun, SessionOf}
 use Rattle.bsc_network_of_runs.specs.Networks.{AreLinks, Carries, Fit, HasTraffic, LinkEnd, Network, OtherEnd, SessionName, Traffic, of_node, of_session}
 use Rattle.bsc_network_of_runs.specs.Nodes.{CameAt, HasNow, NodeRun, PutsWhatWasSent, Sending, SendsAt, WasSent, log_of}
-use Rattle.bsc_node_identity.specs.Npdus.{is_npdu, npdus}
 use Rattle.bsc_node_identity.proofs.Npdus.{out-npdu}
 use Rattle.bsc_network_of_runs.specs.Passing.{PassesOn, PassesOnOnce, WasPassedOn}
-use Rattle.bsc_network_of_runs.proofs.Lists.{got-filter, got-left, kept-here, same-kept, take-split}
+use Rattle.bsc_network_of_runs.proofs.Lists.{got-filter, kept-here, same-kept, take-split, nothing_got}
 use Rattle.bsc_network_of_runs.proofs.Lives.{one_beginning}
-
-nothing_got : (i : ℕ) (o : List ℕ) → slice_get [] i ≡ Some o → ⊥
-nothing_got i o h = cc
+use Rattle.bsc_lemmas.proofs.Lists.{got-left, got-split}
 
 -- ---- where it came from
 

@@ -10,7 +10,7 @@ use Rattle.bsc_checks.specs.declared.verdict.Verdict.TheVariants.{Pass}
 use Rattle.bsc_checks.specs.Outcomes.{outcome_of}
 use Rattle.bsc_history.specs.Ends.{joined, live, numbered}
 use Rattle.bsc_history.proofs.Common.{joined-append}
-use Rattle.bsc_history.proofs.Connections.{joined_apart, joined_in}
+use Rattle.bsc_history.proofs.Connections.{found_in, joined_apart, joined_in, numbered_so}
 use Rattle.bsc_history.proofs.Lists.{In, In-left}
 use Rattle.bsc_lemmas.proofs.Numbers.{small_id}
 use Rattle.bsc_node.specs.declared.link_name.LinkName.{LinkName}
@@ -27,14 +27,14 @@ use Rattle.bsc_node.specs.Messages.{message_octets}
 use Rattle.bsc_node_identity.specs.Carried.{LeadsTo, WaysLeadThere}
 use Rattle.bsc_node_identity.proofs.Settled.{fitting}
 use Rattle.bsc_octets.specs.declared.identity.Identity.{Identity}
+use Rattle.bsc_octets.specs.Functions.{is_npdu, npdus}
 use Rattle.bsc_node_identity.specs.There.{StaysANode}
 use Rattle.bsc_node_links.specs.Lives.{LinkLife, given_over}
 use Rattle.bsc_network_of_runs.specs.Connecting.{ConnectionsAreOfNodes}
 use Rattle.bsc_network_of_runs.specs.Deliveries.{SessionIn, CameByHub, Delivery, HeardFrom, HubDeliveriesWereSent, HubLinksGiveWhatWasSent, beside}
 use Rattle.bsc_network_of_runs.specs.Networks.{AreLinks, Network, OtherEnd, of_node, of_session}
 use Rattle.bsc_network_of_runs.specs.Nodes.{DeliversAt, HasNow, HearsAt, IsWhole, NodeRun, Sending}
-use Rattle.bsc_node_identity.specs.Npdus.{IsFor, is_npdu, npdus}
-use Rattle.bsc_network_of_runs.proofs.Entering.{found_in, numbered_so}
+use Rattle.bsc_node_identity.specs.Npdus.{IsFor}
 use Rattle.bsc_node_identity.proofs.Npdus.{passed-npdu}
 use Rattle.bsc_node_identity.proofs.PassedOn.{IsDeliveredSo, is_for, passed_so}
 

@@ -6,6 +6,7 @@ use Rattle.std.proofs.lemmas.Option.{same_Some}
 use Rattle.std.proofs.lemmas.List.Elements.{filter-append}
 use Rattle.bsc_octets.specs.declared.identity.Identity.{Identity}
 use Rattle.bsc_octets.specs.declared.vmac.Vmac.{Vmac}
+use Rattle.bsc_octets.specs.Functions.{is_npdu, npdus}
 use Rattle.bsc_frame.specs.declared.message.Message.{Message}
 use Rattle.bsc_frame.specs.declared.body.Body.TheVariants.{Npdu}
 use Rattle.bsc_frame.proofs.Common.{same_npdu}
@@ -29,16 +30,13 @@ use Rattle.bsc_node_links.specs.Lives.{HasBegun, LinkLife, given_over, put_over}
 use Rattle.bsc_network_of_runs.specs.Deliveries.{CameByHub, Delivery, DirectDeliveriesWereSent, HubDeliveriesAreApart, HubDeliveriesWereSent, RunsDeliverOnlyWhatWasSent, SentDirectly, WasSentBy, beside}
 use Rattle.bsc_network_of_runs.specs.Networks.{AreLinks, Carries, Fit, HasTraffic, LinkEnd, Network, OtherEnd, Traffic, of_node, of_session}
 use Rattle.bsc_network_of_runs.specs.Nodes.{DeliversAt, HearsAt, NodeRun, PutsWhatWasSent, Sending, SendsAt, WasSent, log_of}
-use Rattle.bsc_node_identity.specs.Npdus.{is_npdu, npdus}
 use Rattle.bsc_network_of_runs.proofs.Coming.{own-npdu, same_put}
 use Rattle.bsc_network_of_runs.proofs.Delivering.{has_begun, newest}
 use Rattle.bsc_network_of_runs.proofs.Hearing.{begun_still, heard-at}
-use Rattle.bsc_network_of_runs.proofs.Lists.{got-left}
 use Rattle.bsc_node_identity.proofs.Npdus.{passed-npdu}
 use Rattle.bsc_network_of_runs.proofs.Parting.{heard_once, life_in}
-
-nothing_got : (i : ℕ) (o : List ℕ) → slice_get [] i ≡ Some o → ⊥
-nothing_got i o h = cc
+use Rattle.bsc_lemmas.proofs.Lists.{got-left}
+use Rattle.bsc_network_of_runs.proofs.Lists.{nothing_got}
 
 not_both : (b : Bool) → b ≡ true → b ≡ false → ⊥
 not_both b h g = (let both : true ≡ false = sym h ∙ g in cc)

@@ -3,6 +3,7 @@ use Rattle.std.proofs.Common.{◌≡◌, ℕ, ◌+◌, Bool, true, false, cond, 
 use Rattle.std.specs.Prelude.{flat_map, slice_get}
 use Rattle.std.proofs.lemmas.Grind.{flat_map-append}
 use Rattle.std.proofs.lemmas.List.Elements.{filter-append}
+use Rattle.bsc_octets.specs.Functions.{is_npdu, npdus}
 use Rattle.bsc_node.specs.declared.link_name.LinkName.{LinkName}
 use Rattle.bsc_node.specs.declared.node_event.NodeEvent.TheVariants.{Came}
 use Rattle.bsc_node.specs.declared.timed_event.TimedEvent.{TimedEvent}
@@ -13,18 +14,15 @@ use Rattle.bsc_node.specs.Meeting.{is_hub}
 use Rattle.bsc_node.specs.Node.{goes_on}
 use Rattle.bsc_node.proofs.Following.{goes_on-is}
 use Rattle.bsc_node.proofs.Told.{same_link-self}
-use Rattle.bsc_node_links.proofs.Lists.{drop-more, got-below, got-split}
+use Rattle.bsc_node_links.proofs.Lists.{drop-more}
 use Rattle.bsc_node_links.proofs.Lives.{until-all, until-none}
 use Rattle.bsc_node_links.specs.Lives.{HasBegun, LinkLife, given_by, given_by_event, given_over, lines_since, put_over, until_anew}
 use Rattle.bsc_node_links.specs.Talks.{put_in}
 use Rattle.bsc_network_of_runs.specs.Deliveries.{HeardFrom, HubLinksGiveWhatWasSent, SessionIn, SessionsPutWhatWasSent}
 use Rattle.bsc_network_of_runs.specs.Networks.{AreLinks, Carries, Fit, HasTraffic, LinkEnd, Network, OtherEnd, SessionName, Traffic, of_node, of_session}
 use Rattle.bsc_network_of_runs.specs.Nodes.{CameAt, HasNow, NodeRun, log_of}
-use Rattle.bsc_node_identity.specs.Npdus.{is_npdu, npdus}
-use Rattle.bsc_network_of_runs.proofs.Lists.{got-left}
-
-nothing_got : (i : ℕ) (o : List ℕ) → slice_get [] i ≡ Some o → ⊥
-nothing_got i o h = cc
+use Rattle.bsc_lemmas.proofs.Lists.{got-left, got-split, got-within}
+use Rattle.bsc_network_of_runs.proofs.Lists.{nothing_got}
 
 -- what the event gives over this link
 pub given-here : (e : TimedEvent) (name : LinkName) (o : List ℕ) → e.event ≡ Came name o → given_by name (came e) ≡ o ∷ []
@@ -39,7 +37,7 @@ pub heard-in : (L B : Log) (rest : List Line) (x : LinkLife) (e : TimedEvent) (o
 heard-in L B rest x e o split is has npdu =
     let name = x.name in
     let D = lines_since B x in
-    let below = got-below B x.began has.begun.line has.begun.at in
+    let below = got-within B x.began has.begun.line has.begun.at in
     let since : lines_since L x ≡ D ++ came e ∷ rest = ap (λ (l : Log). lines_since l x) split ∙ drop-more (x.began + 1) B (came e ∷ rest) (omega arith) in
     let life : until_anew name (lines_since L x) ≡ D ++ came e ∷ until_anew name rest = ap (until_anew name) since ∙ until-none name D (came e ∷ rest) has.since in
     let first : until_anew name D ≡ D = until-all name D has.since in

@@ -1,5 +1,4 @@
 pub mod Lists
-pub mod Entering
 pub mod Passing
 pub mod Lives
 pub mod Sending

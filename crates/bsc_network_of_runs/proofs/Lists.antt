@@ -2,19 +2,15 @@
 use Rattle.std.proofs.Common.{◌≡◌, ◌⊎◌, inl, inr, ℕ, zero, suc, Bool, true, false, cond, List, [], ◌∷◌, ◌++◌, length, filter, take, Some, refl, ap, sym, subst, ◌∙◌, arith, length-append}
 use Rattle.std.specs.Prelude.{flat_map, map, slice_get}
 use Rattle.std.proofs.lemmas.Option.{same_Some}
+use Rattle.bsc_lemmas.proofs.Numbers.{same_suc}
 
 never : (n : ℕ) → zero ≡ suc n → ⊥
 never n h = cc
 
-suc_same : (i j : ℕ) → suc i ≡ suc j → i ≡ j
-suc_same i j h = cc
-
 -- ---- at an index
 
-pub got-left : {A : Type 0} (xs ys : List A) (i : ℕ) (x : A) → slice_get xs i ≡ Some x → slice_get (xs ++ ys) i ≡ Some x
-got-left [] ys i x h = cc
-got-left (a ∷ xs) ys zero x h = h
-got-left (a ∷ xs) ys (suc i) x h = got-left xs ys i x h
+pub nothing_got : (i : ℕ) (o : List ℕ) → slice_get [] i ≡ Some o → ⊥
+nothing_got i o h = cc
 
 pub got-taken : {A : Type 0} (n : ℕ) (xs : List A) (i : ℕ) (x : A) → slice_get (take n xs) i ≡ Some x → slice_get xs i ≡ Some x
 got-taken zero xs i x h = cc
@@ -84,7 +80,7 @@ same-kept {A} p (z ∷ zs) (suc i) (suc j) x y a q b r e = ap suc (same-kept p z
     J = filter p (take j zs)
 
     by : (t : Bool) → length (cond t (z ∷ I) I) ≡ length (cond t (z ∷ J) J) → length I ≡ length J
-    by true h = suc_same (length I) (length J) h
+    by true h = same_suc (length I) (length J) h
     by false h = h
 
 -- ---- what each gives, at most one

@@ -12,6 +12,7 @@ use Rattle.bsc_checks.specs.Outcomes.{outcome_of}
 use Rattle.bsc_accept.specs.Messages.{who_asks}
 use Rattle.bsc_history.specs.declared.connection.Connection.{Connection}
 use Rattle.bsc_history.specs.Ends.{joined}
+use Rattle.bsc_history.proofs.Connections.{found_in}
 use Rattle.bsc_history.proofs.Lists.{In, In-append, In-left as In-front, In_from_all}
 use Rattle.bsc_node.specs.declared.link_name.LinkName.{LinkName}
 use Rattle.bsc_node.specs.declared.timed_event.TimedEvent.{TimedEvent}
@@ -41,7 +42,6 @@ use Rattle.bsc_network_of_runs.specs.Connecting.{ConnectionsAreOfNodes, IsOfNode
 use Rattle.bsc_network_of_runs.specs.Deliveries.{SessionIn}
 use Rattle.bsc_network_of_runs.specs.Networks.{AreLinks, Carries, HasTraffic, LinkEnd, Network, OtherEnd, SessionName, Traffic, of_node, of_session}
 use Rattle.bsc_network_of_runs.specs.Nodes.{CameAt, NodeRun, log_of}
-use Rattle.bsc_network_of_runs.proofs.Entering.{found_in}
 use Rattle.bsc_network_of_runs.proofs.Joining.{AskedBy, asked_among, asked_so, caller_is, connect_among}
 use Rattle.bsc_network_of_runs.proofs.Members.{In-given, In-made, In-mapped}
 use Rattle.bsc_network_of_runs.proofs.Passing.{GivenLaw}

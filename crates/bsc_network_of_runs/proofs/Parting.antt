@@ -3,6 +3,7 @@ use Rattle.std.proofs.Common.{◌≡◌, ◌≢◌, ◌⊎◌, inl, inr, ℕ, �
 use Rattle.std.specs.Prelude.{slice_get}
 use Rattle.std.proofs.lemmas.Option.{same_Some}
 use Rattle.bsc_octets.specs.declared.identity.Identity.{Identity}
+use Rattle.bsc_octets.specs.Functions.{is_npdu, npdus}
 use Rattle.bsc_history.specs.declared.connection.Connection.{Connection}
 use Rattle.bsc_history.specs.declared.entry.Entry.{Entry}
 use Rattle.bsc_history.specs.declared.limits.About.{About}
@@ -10,11 +11,10 @@ use Rattle.bsc_history.specs.Ends.{joined, live, numbered}
 use Rattle.bsc_history.specs.Laws.{Apart, OneOfDevice}
 use Rattle.bsc_history.specs.Legality.{Legal}
 use Rattle.bsc_history.proofs.Common.{joined-append}
-use Rattle.bsc_history.proofs.Connections.{joined_apart, joined_in}
+use Rattle.bsc_history.proofs.Connections.{found_in, joined_apart, joined_in, numbered_so}
 use Rattle.bsc_history.proofs.Lists.{In, In-left, In_from_all, same_one}
 use Rattle.bsc_history.proofs.Parts.{Legal-first}
 use Rattle.bsc_node.specs.Logs.{came}
-use Rattle.bsc_node_links.proofs.Lists.{got-below}
 use Rattle.bsc_node_links.specs.Lives.{LinkLife, given_over}
 use Rattle.bsc_node_links.specs.Talks.{given_in}
 use Rattle.bsc_network_of_runs.specs.Connecting.{ConnectionsAreOfNodes, IsConnectedBy, IsOfNode}
@@ -22,16 +22,15 @@ use Rattle.bsc_network_of_runs.specs.Deliveries.{CameByHub, CameUp, Delivery, Hu
 use Rattle.bsc_network_of_runs.specs.Hubs.{HubRun, SessionOf}
 use Rattle.bsc_network_of_runs.specs.Networks.{AreLinks, LinkEnd, Network, OtherEnd, SessionName, of_node, of_session}
 use Rattle.bsc_network_of_runs.specs.Nodes.{HearsAt, NodeRun, Sending, SendsAt, log_of}
-use Rattle.bsc_node_identity.specs.Npdus.{is_npdu, npdus}
 use Rattle.bsc_network_of_runs.specs.Passing.{WasPassedOn}
 use Rattle.bsc_node_identity.proofs.Npdus.{out-npdu}
 use Rattle.bsc_network_of_runs.proofs.Coming.{own-npdu, same_put}
-use Rattle.bsc_network_of_runs.proofs.Entering.{found_in, numbered_so}
 use Rattle.bsc_network_of_runs.proofs.Hearing.{from_event, heard-in}
 use Rattle.bsc_network_of_runs.proofs.Lists.{same-kept}
 use Rattle.bsc_network_of_runs.proofs.Lives.{either_way}
 use Rattle.bsc_network_of_runs.proofs.Members.{In-got}
 use Rattle.bsc_network_of_runs.proofs.Passing.{one_forward}
+use Rattle.bsc_lemmas.proofs.Lists.{got-within}
 
 -- ---- one place
 
@@ -51,7 +50,7 @@ heard_later : (n : NodeRun) (x : LinkLife) (r q i j : ℕ) (o p : List ℕ) → 
 heard_later n x r q i j o p h g npdu less =
     let split = longer h.comes.before g.comes.before (came h.e) _ _ (sym (from_event n.made (log_of n) i h.e h.comes) ∙ g.comes.is) less in
     let at = heard-in g.comes.before h.comes.before split.0 x h.e o split.1 h.brings h.has npdu in
-    let below = got-below (npdus (given_over g.comes.before x)) (length (npdus (given_over h.comes.before x))) o at in
+    let below = got-within (npdus (given_over g.comes.before x)) (length (npdus (given_over h.comes.before x))) o at in
     let first = h.nth in
     let second = g.nth in
     omega arith

@@ -8,11 +8,16 @@ use Rattle.std.proofs.lemmas.Grind.{flat_map-append}
 use Rattle.std.proofs.lemmas.List.Elements.{filter-append}
 use Rattle.std.proofs.lemmas.Option.{same_Some}
 use Rattle.bsc_octets.specs.declared.vmac.Vmac.{Vmac}
+use Rattle.bsc_octets.specs.Functions.{is_npdu, npdus}
 use Rattle.bsc_policy.specs.declared.policy.Policy.{Policy}
 use Rattle.bsc_history.specs.declared.call.Call.TheVariants.{Forward}
 use Rattle.bsc_history.specs.declared.entry.Entry.{Entry}
+use Rattle.bsc_history.specs.declared.limits.About.{About}
 use Rattle.bsc_history.specs.Entries.{own}
+use Rattle.bsc_history.specs.Entering.{EnterByForwards, EnteredBy}
+use Rattle.bsc_history.specs.Legality.{Legal}
 use Rattle.bsc_history.specs.Outboxes.{sent}
+use Rattle.bsc_history.proofs.Parts.{sent_on}
 use Rattle.bsc_checks.specs.declared.verdict.Verdict.{Verdict}
 use Rattle.bsc_checks.specs.declared.verdict.Verdict.TheVariants.{Pass, Carry as Carried, Silent, Nak}
 use Rattle.bsc_edge.specs.declared.said.Said.{Said}
@@ -25,15 +30,12 @@ use Rattle.bsc_session.specs.Standings.{Terms}
 use Rattle.bsc_session.specs.Talk.{Session}
 use Rattle.bsc_session_laws.specs.Laws.{AreAllBut, ForwardsAreCarried, IsOfConnection, IsUnentered, MessagesAreGiven}
 use Rattle.bsc_session_laws.specs.Messages.{JudgedMessage, allowed, allowed_by, forwarded, forwarded_in, messages_of}
-use Rattle.bsc_node_links.proofs.Lists.{got-split}
 use Rattle.bsc_node_links.specs.Talks.{given_in}
 use Rattle.bsc_network_of_runs.specs.Hubs.{HubRun, IsCallerOf, SessionOf}
-use Rattle.bsc_node_identity.specs.Npdus.{is_npdu, npdus}
-use Rattle.bsc_network_of_runs.specs.Outboxes.{EnteredBy}
 use Rattle.bsc_session_laws.specs.Npdus.{NpdusAreTaken}
 use Rattle.bsc_network_of_runs.specs.Passing.{PassesOn, PassesOnOnce, WasPassedOn}
-use Rattle.bsc_network_of_runs.proofs.Entering.{enter_by_forwards, sent_on}
-use Rattle.bsc_network_of_runs.proofs.Lists.{AtMostOne, got-filter, got-given, got-left, got-mapped, got-taken, same-split, take-split, take-taken}
+use Rattle.bsc_network_of_runs.proofs.Lists.{AtMostOne, got-filter, got-given, got-mapped, got-taken, same-split, take-split, take-taken}
+use Rattle.bsc_lemmas.proofs.Lists.{got-left, got-split}
 
 -- ---- what a policy lets through
 
@@ -131,9 +133,14 @@ GivenLaw = (v : Terms) (T : List Said) (R : List ℕ) (E : List Entry) (frames :
 abbrev pub ForwardsLaw : Type 0
 ForwardsLaw = (v : Terms) (T : List Said) (R : List ℕ) (E : List Entry) (frames : List (List ℕ)) (ended : Ended) → (x : Session v T R E frames ended) → ForwardsAreCarried v E ended x.course
 
+-- ---- the law of outboxes
+
+abbrev pub EnteringLaw : Type 0
+EnteringLaw = (a : About) (H : List Entry) → Legal a H → EnterByForwards a H
+
 -- ---- a hub
 
-module _ (taken_law : TakenLaw) (given_law : GivenLaw) (forwards_law : ForwardsLaw) (h : HubRun) where
+module _ (entering_law : EnteringLaw) (taken_law : TakenLaw) (given_law : GivenLaw) (forwards_law : ForwardsLaw) (h : HubRun) where
   -- what the sender's session was given
   record Sender (before : List Entry) (caller sender : ℕ) (m : List ℕ) : Type 0 where
     number : ℕ
@@ -208,7 +215,7 @@ module _ (taken_law : TakenLaw) (given_law : GivenLaw) (forwards_law : ForwardsL
       let frames = take s.ended.taken (sent h.about H c) in
       let k = got-filter is_npdu (let_through policy to frames) n o got in
       let t = through policy to frames k.index o k.at in
-      let x : EnteredBy h.about H c t.index o = enter_by_forwards h.about H h.legal c t.index o (got-taken s.ended.taken (sent h.about H c) t.index o t.at) in
+      let x : EnteredBy h.about H c t.index o = entering_law h.about H h.legal c t.index o (got-taken s.ended.taken (sent h.about H c) t.index o t.at) in
       let front : take t.index frames ≡ sent h.about x.before c = take-taken s.ended.taken (sent h.about H c) t.index o t.at ∙ front_is c t.index o x in
       passed s c n t.index o is x (sym k.before ∙ ap (λ (l : List (List ℕ)). length (npdus l)) (t.before ∙ ap (let_through policy to) front))
 

@@ -7,6 +7,7 @@ use Rattle.std.proofs.lemmas.Option.{same_Some}
 use Rattle.bsc_octets.specs.declared.identity.Identity.{Identity}
 use Rattle.bsc_octets.specs.declared.vmac.Vmac.{Vmac}
 use Rattle.bsc_octets.specs.Forwarding.{function_in}
+use Rattle.bsc_octets.specs.Functions.{is_npdu}
 use Rattle.bsc_frame.specs.declared.message.Message.{Message}
 use Rattle.bsc_checks.specs.declared.place.Place.{Place}
 use Rattle.bsc_checks.specs.declared.verdict.Verdict.TheVariants.{Pass}
@@ -33,7 +34,6 @@ use Rattle.bsc_node_links.specs.Lives.{HasBegun, LinkLife, given_over, put_over}
 use Rattle.bsc_network_of_runs.specs.Deliveries.{CameDirectly, CameFrom, Delivery, DirectDeliveriesHaveTheirNodes, HubDeliveriesHaveTheirNodes, RunsDeliverOnlyWhatWasSent, RunsDeliverWhatWasSent, SentDirectly, WasSentBy}
 use Rattle.bsc_network_of_runs.specs.Networks.{AreLinks, Carries, Fit, LinkEnd, Network, OtherEnd, Traffic, of_node}
 use Rattle.bsc_network_of_runs.specs.Nodes.{HasNow, NodeRun, Sending, log_of}
-use Rattle.bsc_node_identity.specs.Npdus.{is_npdu}
 use Rattle.bsc_network_of_runs.specs.Reached.{EventsAreReached}
 use Rattle.bsc_network_of_runs.specs.Running.{IsLogOf}
 use Rattle.bsc_network_of_runs.proofs.Born.{born-same, named_over, put_at, until-is}

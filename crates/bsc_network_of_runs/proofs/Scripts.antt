@@ -21,7 +21,7 @@ use Rattle.bsc_node_run.specs.declared.line.Line.TheVariants.{Nothing, At, Ask}
 use Rattle.bsc_node_run.specs.Saying.{at_line, finish_line, line_of, line_of_words, node_line, one_node, other_line, send_line, send_to}
 use Rattle.bsc_node_run.specs.Scripts.{Wish, wish_of, asked_from, first_bad, has_finish, lines_in, meant_by, script_of}
 use Rattle.bsc_network_of_runs.specs.Nodes.{IsWhole}
-use Rattle.bsc_network_of_runs.specs.Running.{AreWhole}
+use Rattle.bsc_network_of_runs.proofs.Wholly.{AreWhole}
 
 -- ---- words
 

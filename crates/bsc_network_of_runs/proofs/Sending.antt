@@ -5,6 +5,7 @@ use Rattle.std.specs.List.{list_any}
 use Rattle.std.proofs.lemmas.Grind.{flat_map-append}
 use Rattle.std.proofs.lemmas.List.Elements.{filter-append}
 use Rattle.bsc_octets.specs.declared.vmac.Vmac.{Vmac}
+use Rattle.bsc_octets.specs.Functions.{is_npdu, npdus}
 use Rattle.bsc_frame.specs.declared.body.Body.TheVariants.{Npdu}
 use Rattle.bsc_node.specs.declared.link_name.LinkName.{LinkName}
 use Rattle.bsc_node.specs.declared.node_event.NodeEvent.{NodeEvent}
@@ -24,12 +25,13 @@ use Rattle.bsc_node.specs.Ways.{Way, way}
 use Rattle.bsc_node.proofs.Common.{same_link-is}
 use Rattle.bsc_node.proofs.Following.{goes_on-is}
 use Rattle.bsc_node_identity.proofs.Settled.{lasting}
-use Rattle.bsc_node_links.proofs.Lists.{drop-behind, drop-more, got-below, got-more}
+use Rattle.bsc_lemmas.proofs.Lists.{got-more, got-within}
+use Rattle.bsc_node_links.proofs.Lists.{drop-behind, drop-more}
 use Rattle.bsc_node_links.proofs.Lives.{until-all, until-none, until-some}
 use Rattle.bsc_node_links.specs.Lives.{HasBegun, LinkLife, lines_since, put_by, put_over, until_anew}
 use Rattle.bsc_network_of_runs.specs.Nodes.{CameAt, HasNow, NodeRun, PutsWhatWasSent, SendsAt}
-use Rattle.bsc_node_identity.specs.Npdus.{is_npdu, npdus}
 use Rattle.bsc_network_of_runs.proofs.Lives.{got-either}
+use Rattle.bsc_network_of_runs.proofs.Lists.{nothing_got}
 
 -- ---- NPDUs among the lines of one event
 
@@ -214,9 +216,6 @@ sent_still a L x r o more s = record {
       });
 }
 
-nothing_got : (i : ℕ) (o : List ℕ) → slice_get [] i ≡ Some o → ⊥
-nothing_got i o h = cc
-
 module _ (law : (a : Made) → NpdusArePutOnce a) (a : Made) (L : Log) (e : TimedEvent) (may : IsTrue (may_come L e)) where
   sent_now : (x : LinkLife) (r : ℕ) (o : List ℕ) (once : IsPutOnce a L e) → HasNow L x → r ≡ length (npdus (put_over L x)) → own_message once.2 (Npdu once.1) (with_event L e) ≡ o → once.2.link ≡ x.name → SentIn a (L ++ goes_on a e L) x r o
   sent_now x r o once has nth is link = record {
@@ -248,7 +247,7 @@ module _ (law : (a : Made) → NpdusArePutOnce a) (a : Made) (L : Log) (e : Time
       ls = goes_on a e L
 
       since : lines_since (L ++ ls) x ≡ D ++ ls
-      since = (let below = got-below L x.began has.line has.at in drop-more (x.began + 1) L ls (omega arith))
+      since = (let below = got-within L x.began has.line has.at in drop-more (x.began + 1) L ls (omega arith))
 
       old : slice_get (npdus (put_over L x)) r ≡ Some o → SentIn a (L ++ ls) x r o
       old g = sent_still a L x r o ls (all x r o has g)

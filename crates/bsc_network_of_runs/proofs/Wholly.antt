@@ -1,6 +1,7 @@
 -- What is sent in a run goes to addresses of six octets, where its script says so.
-use Rattle.std.proofs.Common.{◌≡◌, inl, inr, ℕ, Bool, true, false, List, [], ◌∷◌, ◌++◌, Option, Some, None, Result, Ok, Err, refl, ap, sym, subst, ◌∙◌}
+use Rattle.std.proofs.Common.{◌≡◌, inl, inr, ℕ, zero, suc, arith, Bool, true, false, List, [], ◌∷◌, ◌++◌, Option, Some, None, Result, Ok, Err, refl, ap, sym, subst, ◌∙◌}
 use Rattle.std.specs.Prelude.{IsTrue, unwrap_or, ⊤}
+use Rattle.std.specs.List.{Contains}
 use Rattle.bsc_edge.specs.declared.fault.LinkFault.{LinkFault}
 use Rattle.bsc_edge.specs.declared.fault.LinkFault.TheVariants.{Failed, NoMemory}
 use Rattle.bsc_edge.specs.declared.incoming.Incoming.{Incoming}
@@ -11,7 +12,7 @@ use Rattle.bsc_node.specs.declared.node_event.NodeEvent.{NodeEvent}
 use Rattle.bsc_node.specs.declared.node_event.NodeEvent.TheVariants.{Start, Arrived, Came, CameText, Lost, Tick, Send}
 use Rattle.bsc_node.specs.declared.timed_event.TimedEvent.{TimedEvent}
 use Rattle.bsc_node.specs.declared.action.Action.{Action}
-use Rattle.bsc_node.specs.Conditions.{brings_word}
+use Rattle.bsc_node.specs.Conditions.{brings_word, may_come}
 use Rattle.bsc_node.specs.Logs.{Made, Log}
 use Rattle.bsc_node_run.specs.declared.due.Due.{Due}
 use Rattle.bsc_node_run.specs.declared.news.Change.{Change}
@@ -25,11 +26,13 @@ use Rattle.bsc_node_laws.specs.Courses.{GoesAsDefined}
 use Rattle.bsc_node.specs.Laws.{with_event}
 use Rattle.bsc_node.specs.Logs.{Line, came}
 use Rattle.bsc_node.specs.Events.{follows}
+use Rattle.bsc_node.specs.Node.{goes_on}
 use Rattle.bsc_node.proofs.Following.{goes_on-is}
+use Rattle.bsc_node_links.specs.Stopped.{IsOfScript, MightCome}
 use Rattle.bsc_network_of_runs.specs.Nodes.{CameAt, IsWhole}
-use Rattle.bsc_network_of_runs.specs.Running.{AreWhole}
 use Rattle.bsc_network_of_runs.proofs.Hearing.{from_event}
 use Rattle.bsc_network_of_runs.proofs.Reached.{no_event}
+use Rattle.bsc_network_of_runs.proofs.Running.{after_all}
 
 -- ---- a whole log
 
@@ -79,6 +82,11 @@ news_whole name DidOpen = tt
 news_whole name DidntOpen = tt
 news_whole name WasLost = tt
 
+-- What each line of a script sends goes to an address of six octets.
+abbrev pub AreWhole : List Due → Type 0
+AreWhole [] = ⊤
+AreWhole (d ∷ lines) = IsWhole d.event × AreWhole lines
+
 whole_left : (xs ys : List Due) → AreWhole (xs ++ ys) → AreWhole xs
 whole_left [] ys h = tt
 whole_left (d ∷ xs) ys h = (h.0, whole_left xs ys h.1)
@@ -86,6 +94,27 @@ whole_left (d ∷ xs) ys h = (h.0, whole_left xs ys h.1)
 whole_right : (xs ys : List Due) → AreWhole (xs ++ ys) → AreWhole ys
 whole_right [] ys h = h
 whole_right (d ∷ xs) ys h = whole_right xs ys h.1
+
+-- ---- events that might come
+
+each_whole : (lines : List Due) (d : Due) → AreWhole lines → Contains lines d → IsWhole d.event
+each_whole [] d h (k, below, is) = absurd (omega (arith, below))
+each_whole (x ∷ lines) d h (zero, below, is) = subst (λ (y : Due). IsWhole y.event) is h.0
+each_whole (x ∷ lines) d h (suc k, below, is) = each_whole lines d h.1 (k, omega (arith, below), is)
+
+script_whole : (script : List Due) (e : NodeEvent) → AreWhole script → IsOfScript script e → IsWhole e
+script_whole script (Send dest npdu) whole (line, c, is) = subst IsWhole is (each_whole script line whole c)
+script_whole script e whole h = tt
+
+one_whole : (a : Made) (M : Log) (e : TimedEvent) → IsTrue (may_come M e) → IsWhole e.event → Wholly M (M ++ goes_on a e M)
+one_whole a M e may whole h =
+    subst EachWhole (sym (ap (λ (l : List Line). M ++ l) (goes_on-is a M e)))
+    (whole_append M (came e ∷ follows a e.event (with_event M e)) h (whole, whole_none (follows a e.event (with_event M e)) (λ b rest y is. no_event a M e may b rest y is)))
+
+pub whole_all : (a : Made) (script : List Due) → AreWhole script → (M : Log) (events : List TimedEvent) → MightCome a script M events → EachWhole M → EachWhole (after_all a M events)
+whole_all a script whole M [] h each = each
+whole_all a script whole M (e ∷ events) h each =
+    whole_all a script whole (M ++ goes_on a e M) events h.2 (one_whole a M e h.0 (script_whole script e.event whole h.1) each)
 
 -- ---- a turn
 

@@ -3,6 +3,7 @@ use Rattle.std.proofs.Common.{◌≡◌, ℕ, List, [], ◌∷◌, Some, refl, s
 use Rattle.std.specs.Prelude.{slice_get}
 use Rattle.std.specs.List.{AllByRecursion}
 use Rattle.bsc_octets.specs.Identities.{identity_of}
+use Rattle.bsc_octets.specs.Functions.{npdus}
 use Rattle.bsc_history.specs.declared.entry.Entry.{Entry}
 use Rattle.bsc_history.specs.declared.limits.About.{About}
 use Rattle.bsc_history.specs.Legality.{Legal}
@@ -13,7 +14,6 @@ use Rattle.bsc_session.proofs.TalkWords.{back, hub_octets, terms}
 use Rattle.bsc_node_links.specs.Talks.{put_in}
 use Rattle.bsc_session_laws.proofs.WorkedLaws.{a_hears_itself, made, over, talk}
 use Rattle.bsc_network_of_runs.specs.Hubs.{HubRun, SessionOf}
-use Rattle.bsc_node_identity.specs.Npdus.{npdus}
 use Rattle.bsc_network_of_runs.specs.Passing.{PassesOn, WasPassedOn}
 use Rattle.bsc_network_of_runs.proofs.Passing.{all-here}
 

@@ -11,13 +11,14 @@ use Rattle.bsc_node.specs.declared.node_event.NodeEvent.TheVariants.{Send}
 use Rattle.bsc_node.specs.Logs.{Line, came}
 use Rattle.bsc_node.specs.Node.{log}
 use Rattle.bsc_node.proofs.OnLiterals.{node_on_literals}
+use Rattle.bsc_node_links.proofs.NodeWords.{node as node_a}
 use Rattle.bsc_network_of_runs.specs.Deliveries.{DeliversWhatWasSent, RunsDeliverWhatWasSent}
 use Rattle.bsc_network_of_runs.specs.Networks.{AreLinks, Network, SessionName, of_node, of_session}
 use Rattle.bsc_network_of_runs.specs.Nodes.{IsWhole, NodeRun}
 use Rattle.bsc_network_of_runs.proofs.Coming.{event_here}
 use Rattle.bsc_network_of_runs.proofs.Linking.{Wire, are_links, is_linked, other_by}
 use Rattle.bsc_network_of_runs.proofs.Worked.{the_run}
-use Rattle.bsc_network_of_runs.proofs.WorkedNode.{events, link, node_a, they_may_come}
+use Rattle.bsc_network_of_runs.proofs.WorkedNode.{events, link, they_may_come}
 
 -- ---- lists
 

@@ -19,6 +19,7 @@ use Rattle.bsc_node.specs.Logs.{Line, Log, Made, came}
 use Rattle.bsc_node.specs.Node.{each_actions, log}
 use Rattle.bsc_node.proofs.OnLiterals.{node_on_literals}
 use Rattle.bsc_node_links.specs.Lives.{LinkLife}
+use Rattle.bsc_node_links.proofs.NodeWords.{at, node as a_node}
 use Rattle.bsc_network_of_runs.specs.Deliveries.{DeliversWhatWasSent, RunsDeliverWhatWasSent}
 use Rattle.bsc_network_of_runs.specs.Networks.{AreLinks, Network, of_node, of_session}
 use Rattle.bsc_network_of_runs.specs.Nodes.{NodeRun}
@@ -26,22 +27,11 @@ use Rattle.bsc_network_of_runs.proofs.Coming.{event_here}
 use Rattle.bsc_network_of_runs.proofs.Linking.{Wire, are_links, begun_by, is_linked, other_by}
 use Rattle.bsc_network_of_runs.proofs.WorkedHubs.{accept, answered, asked, connect, direct_npdu, first_run, from_a, from_c, npdu, second_run, uris, who}
 use Rattle.bsc_network_of_runs.proofs.WorkedNetwork.{all-got, is_whole, whole_line}
-use Rattle.bsc_network_of_runs.proofs.WorkedNode.{at}
 
 -- ---- what the nodes were made with
 
 abbrev made : ℕ → Option (List ℕ) → Option (List ℕ) → Made
-made n failover own_uris = record {
-  own = who n;
-  limits = record {
-    times = record { connect_wait = 10000; disconnect_wait = 10000; heartbeat = 300000 };
-    primary = codes "ws://p/";
-    failover = failover;
-    uris = own_uris;
-    least_wait = 1000;
-    greatest_wait = 60000;
-  };
-}
+made n failover own_uris = record { own = who n; limits = record (a_node.limits) { failover = failover; uris = own_uris } }
 
 abbrev a : Made
 a = made 0x0A None None

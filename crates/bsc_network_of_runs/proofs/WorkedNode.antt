@@ -1,37 +1,21 @@
 -- The node of the worked hub's session, by computation: what its log says of its link is what the session's talk says at the other end.
-use Rattle.std.proofs.Common.{◌≡◌, ℕ, true, false, List, [], ◌∷◌, Some, None, refl}
+use Rattle.std.proofs.Common.{◌≡◌, true, false, List, [], ◌∷◌, Some, refl}
 use Rattle.std.specs.Prelude.{codes, slice_get}
 use Rattle.bsc_octets.specs.Identities.{identity_of}
 use Rattle.bsc_connector.specs.declared.side.Side.TheVariants.{Primary}
 use Rattle.bsc_node.specs.declared.link_name.LinkName.TheVariants.{Hub}
-use Rattle.bsc_node.specs.declared.node_event.NodeEvent.{NodeEvent}
 use Rattle.bsc_node.specs.declared.node_event.NodeEvent.TheVariants.{Start, Opened, Came, Send}
 use Rattle.bsc_node.specs.declared.timed_event.TimedEvent.{TimedEvent}
 use Rattle.bsc_node.specs.declared.action.Action.TheVariants.{Deliver, Dial}
 use Rattle.bsc_node.specs.Conditions.{may_all_come}
-use Rattle.bsc_node.specs.Logs.{Made, did}
+use Rattle.bsc_node.specs.Logs.{did}
 use Rattle.bsc_node.specs.Node.{actions, log}
 use Rattle.bsc_node.proofs.OnLiterals.{node_on_literals}
 use Rattle.bsc_session.proofs.TalkWords.{a_octets, accept, back}
 use Rattle.bsc_node_links.specs.Lives.{LinkLife, given_over, put_over}
 use Rattle.bsc_node_links.specs.Talks.{given_in, put_in}
+use Rattle.bsc_node_links.proofs.NodeWords.{at, node as node_a}
 use Rattle.bsc_session_laws.proofs.WorkedLaws.{talk}
-
-abbrev pub node_a : Made
-node_a = record {
-  own = identity_of a_octets;
-  limits = record {
-    times = record { connect_wait = 10000; disconnect_wait = 10000; heartbeat = 300000 };
-    primary = codes "ws://p/";
-    failover = None;
-    uris = None;
-    least_wait = 1000;
-    greatest_wait = 60000;
-  };
-}
-
-abbrev pub at : ℕ → NodeEvent → TimedEvent
-at now event = record { now = now; event = event }
 
 -- it starts, its link opens, the hub accepts it, it sends an NPDU to itself, and the hub passes that on to it
 abbrev pub events : List TimedEvent

@@ -5,6 +5,7 @@ use Rattle.std.specs.Prelude.{slice_get}
 use Rattle.std.specs.List.{list_all}
 use Rattle.std.proofs.lemmas.Option.{same_Some}
 use Rattle.bsc_octets.specs.Identities.{identity_of}
+use Rattle.bsc_octets.specs.Functions.{npdus}
 use Rattle.bsc_history.specs.declared.call.Call.TheVariants.{Connect, Forward}
 use Rattle.bsc_history.specs.declared.entry.Entry.{Entry}
 use Rattle.bsc_history.specs.declared.reply.Reply.TheVariants.{Appended, Joined}
@@ -23,15 +24,15 @@ use Rattle.bsc_node.proofs.OnLiterals.{node_on_literals}
 use Rattle.bsc_session.proofs.TalkWords.{accept, back, joined_as, to_itself}
 use Rattle.bsc_node_links.specs.Lives.{HasBegun, given_over, put_over}
 use Rattle.bsc_node_links.specs.Talks.{AreFirstOf, put_in}
+use Rattle.bsc_node_links.proofs.NodeWords.{at, node as node_a}
 use Rattle.bsc_network_of_runs.specs.Hubs.{HubRun, SessionOf}
 use Rattle.bsc_network_of_runs.specs.Networks.{AreLinks, Carries, HasTraffic, LinkEnd, Network, OtherEnd, Traffic, of_node, of_session}
 use Rattle.bsc_network_of_runs.specs.Nodes.{NodeRun, PutsWhatWasSent, WasSent, log_of}
-use Rattle.bsc_node_identity.specs.Npdus.{npdus}
 use Rattle.bsc_network_of_runs.proofs.Coming.{event_here}
 use Rattle.bsc_session_laws.proofs.WorkedLaws.{talk}
 use Rattle.bsc_network_of_runs.proofs.Worked.{the_hub, the_run, the_session}
 use Rattle.bsc_network_of_runs.proofs.WorkedNetwork.{a_is_node, all-got, is_whole, the_name, whole_line}
-use Rattle.bsc_network_of_runs.proofs.WorkedNode.{at, link, node_a}
+use Rattle.bsc_network_of_runs.proofs.WorkedNode.{link}
 
 -- ---- a link that swaps two messages
 

@@ -1,6 +1,7 @@
 -- What holds of every network of runs: where each NPDU that is delivered came from.
 use Rattle.std.specs.Prelude.{◌≡◌, ◌⊎◌, ℕ, true, false, List, length, slice_get, take, Some, None}
 use Rattle.bsc_octets.specs.declared.identity.Identity.{Identity}
+use Rattle.bsc_octets.specs.Functions.{is_npdu, npdus}
 use Rattle.std.specs.Option.{option_map}
 use Rattle.bsc_frame.specs.declared.message.Message.{Message}
 use Rattle.bsc_checks.specs.declared.verdict.Verdict.TheVariants.{Pass}
@@ -20,7 +21,7 @@ use Rattle.bsc_node_links.specs.Talks.{given_in, put_in}
 use Rattle.bsc_network_of_runs.specs.Hubs.{HubRun, SessionOf}
 use Rattle.bsc_network_of_runs.specs.Networks.{AreLinks, Network, OtherEnd, SessionName, of_node, of_session}
 use Rattle.bsc_network_of_runs.specs.Nodes.{DeliversAt, HearsAt, NodeRun, Sending, SendsAt, log_of}
-use Rattle.bsc_node_identity.specs.Npdus.{IsFor, is_npdu, npdus}
+use Rattle.bsc_node_identity.specs.Npdus.{IsFor}
 use Rattle.bsc_network_of_runs.specs.Passing.{WasPassedOn}
 
 -- ---- over a hub

@@ -1,4 +1,3 @@
-pub mod Outboxes
 pub mod Hubs
 pub mod Passing
 pub mod Nodes

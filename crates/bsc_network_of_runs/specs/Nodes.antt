@@ -2,6 +2,7 @@
 use Rattle.std.specs.Prelude.{◌≡◌, ℕ, false, IsTrue, List, [], ◌∷◌, ◌++◌, length, slice_get, Some, ⊤}
 use Rattle.std.specs.List.{list_any}
 use Rattle.bsc_octets.specs.declared.vmac.Vmac.{Vmac}
+use Rattle.bsc_octets.specs.Functions.{npdus}
 use Rattle.bsc_frame.specs.declared.body.Body.TheVariants.{Npdu}
 use Rattle.bsc_frame.specs.Payloads.{IsNode}
 use Rattle.bsc_node.specs.declared.node_event.NodeEvent.{NodeEvent}
@@ -17,7 +18,6 @@ use Rattle.bsc_node.specs.Node.{goes_on, log}
 use Rattle.bsc_node.specs.Requesting.{own_message}
 use Rattle.bsc_node.specs.Ways.{Way, way}
 use Rattle.bsc_node_links.specs.Lives.{HasBegun, LinkLife, given_over, lines_since, put_over}
-use Rattle.bsc_node_identity.specs.Npdus.{npdus}
 
 -- This event came to the node, and has this place in its log: so many lines stand before it.
 pub record CameAt (a : Made) (L : Log) (place : ℕ) (e : TimedEvent) : Type 0 where

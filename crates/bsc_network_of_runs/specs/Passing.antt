@@ -1,14 +1,14 @@
 -- What a hub that was served passes on: the Encapsulated-NPDUs that its sessions put are those that its sessions were given.
 use Rattle.std.specs.Prelude.{◌≡◌, ℕ, List, length, slice_get, take, Some}
+use Rattle.bsc_octets.specs.Functions.{npdus}
 use Rattle.bsc_history.specs.Entries.{own}
+use Rattle.bsc_history.specs.Entering.{EnteredBy}
 use Rattle.bsc_history.specs.Outboxes.{sent}
 use Rattle.bsc_session.specs.Course.{end_of}
 use Rattle.bsc_session.specs.Guarding.{let_through}
 use Rattle.bsc_session_laws.specs.Messages.{allowed, forwarded, messages_of}
 use Rattle.bsc_node_links.specs.Talks.{given_in, put_in}
 use Rattle.bsc_network_of_runs.specs.Hubs.{HubRun, SessionOf}
-use Rattle.bsc_node_identity.specs.Npdus.{npdus}
-use Rattle.bsc_network_of_runs.specs.Outboxes.{EnteredBy}
 
 -- Of the Encapsulated-NPDUs that this session of the hub put, the n-th is the frame o. It entered the outbox of the session's
 -- connection by a Forward, and the message of that is what the link of one of the hub's sessions gave, at this index; the session

@@ -1,8 +1,4 @@
 //! What holds of each network of runs, carried by functions that do nothing.
-ghost use Rattle.std.specs.Prelude.{List};
-ghost use Rattle.bsc_history.specs.declared.entry.Entry.{Entry};
-ghost use Rattle.bsc_history.specs.declared.limits.About.{About};
-ghost use Rattle.bsc_history.specs.Legality.{Legal};
 ghost use Rattle.bsc_network_of_runs.specs.Connecting.{ConnectionsAreAsBorn, ConnectionsAreOfNodes};
 ghost use Rattle.bsc_node.specs.Logs.{Made};
 ghost use Rattle.bsc_network_of_runs.specs.Deliveries.{DirectDeliveriesHaveTheirNodes, DirectDeliveriesWereSent};
@@ -12,9 +8,8 @@ ghost use Rattle.bsc_network_of_runs.specs.Deliveries.{HubDeliveriesAreApart, Hu
 ghost use Rattle.bsc_network_of_runs.specs.Deliveries.{SessionsPutOnce, SessionsPutWhatWasSent};
 ghost use Rattle.bsc_network_of_runs.specs.Hubs.{HubRun};
 ghost use Rattle.bsc_network_of_runs.specs.Nodes.{NodeRun, PutsWhatWasSent};
-ghost use Rattle.bsc_network_of_runs.specs.Outboxes.{EnterByForwards};
 ghost use Rattle.bsc_network_of_runs.specs.Reached.{EventsAreReached};
-ghost use Rattle.bsc_network_of_runs.specs.Running.{RunsAreOfNodes, RunsHaveLogs};
+ghost use Rattle.bsc_network_of_runs.specs.Running.{RunsAreOfNodes, RunsHaveLogs, StoppedRunsAreOfNodes};
 ghost use Rattle.bsc_network_of_runs.specs.Serving.{ServingGivesSessions};
 ghost use Rattle.bsc_network_of_runs.specs.Wires.{WiresAreLinks};
 ghost use Rattle.bsc_node_run.specs.Drawing.{Draws};
@@ -23,17 +18,12 @@ ghost use Rattle.bsc_network_of_runs.specs.Passing.{PassesOn, PassesOnOnce};
 use bsc_edge::Link;
 use bsc_node_run::Words;
 
-/// Each frame of an outbox entered it by one Forward of a live sender that meant its connection, which was live, under the sender's
-/// address.
-pub fn frames_enter_by_forwards()
-    ensures { (a : About) (H : List Entry) → Legal a H → EnterByForwards a H }
-{}
-
 /// Each Encapsulated-NPDU that a session of a hub puts was given by the link of a session of this hub, whose Forward brought it
 /// into the outbox of the session that puts it, under the address under which its sender was connected.
 pub fn hubs_pass_on()
     ensures { (h : HubRun) → PassesOn h }
 {
+    bsc_history::frames_enter_by_forwards();
     bsc_session_laws::npdus_are_taken();
     bsc_session_laws::messages_are_given();
     bsc_session_laws::forwards_are_carried();
@@ -190,6 +180,11 @@ pub fn runs_have_logs<L: Link>()
 /// A run of a node by the text of a script is one of a node of a network, with the log of the run.
 pub fn runs_are_of_nodes<L: Link, W: Words>()
     ensures { RunsAreOfNodes L.talk (Draws W.gives W.faults) }
+{}
+
+/// So is one that a fault stopped, with the log that it has.
+pub fn stopped_runs_are_of_nodes<L: Link>()
+    ensures { StoppedRunsAreOfNodes L.talk }
 {}
 
 /// Wires whose ends tell what they gave and what was put on them are the links of a network.

@@ -11,16 +11,16 @@ use Rattle.bsc_node.specs.Logs.{Line, Log}
 use Rattle.bsc_node_links.specs.Lives.{HasBegun, LinkLife, given_over, put_over}
 use Rattle.bsc_node_links.specs.Talks.{AreFirstOf, given_in, put_in}
 use Rattle.bsc_node_links.specs.Using.{HasUse}
-use Rattle.bsc_node_command.specs.Ran.{RanNodesUseLinks}
+use Rattle.bsc_node_command.specs.Ran.{RanNodesUseLinks, StoppedNodesUseLinks}
 use Rattle.bsc_network_of_runs.specs.Hubs.{HubRun, SessionOf}
 use Rattle.bsc_network_of_runs.specs.Networks.{HasTraffic, LinkEnd, SessionName, Traffic, of_node, of_session}
 use Rattle.bsc_network_of_runs.specs.Nodes.{NodeRun, log_of}
-use Rattle.bsc_network_of_runs.specs.Running.{RunsAreOfNodes}
+use Rattle.bsc_network_of_runs.specs.Running.{RunsAreOfNodes, StoppedRunsAreOfNodes}
 use Rattle.bsc_network_of_runs.specs.Wires.{AreTold, WiresAreLinks}
 use Rattle.bsc_hub_runs.specs.Networks.{HubsThatRanDeliver}
 use Rattle.bsc_hub_runs.specs.Runs.{InPairs}
 use Rattle.bsc_ran_networks.specs.Networks.{IsItsNode, RanByCommand}
-use Rattle.bsc_ran_networks.specs.Wires.{IsItsToldRun, IsToldOn, IsToldOver, ToldRun, WhatRanDeliversByWires, network_of, talk_of, told_at}
+use Rattle.bsc_ran_networks.specs.Wires.{IsItsToldRun, IsToldOver, ToldRun, WhatRanDeliversByWires, network_of, talk_of, told_at}
 use Rattle.bsc_ran_networks.proofs.Networks.{node_of}
 
 -- ---- whether a life began
@@ -60,25 +60,27 @@ module _ {K : Type 0} (talk : K → Option (List Said)) where
   told_by M links l (Some k) came (let_go, u) = record { said = u.T; so = record { link = Some k; came = came; told = (let_go, u.grows); gave = u.gave; took = u.took } }
 
 module _ {K W : Type 0} (talk : K → Option (List Said)) (drawn : NodeEvent → W → W → Type 0) where
-  some_told : (x : RanByCommand talk drawn) (n : NodeRun) (its : IsItsNode talk drawn x n) (l : LinkLife) → HasBegun x.ran.last l → SomeTold talk x.ran.last its.used.links l
+  some_told : (x : RanByCommand talk drawn) (n : NodeRun) (its : IsItsNode talk drawn x n) (l : LinkLife) → HasBegun its.last l → SomeTold talk its.last its.used.links l
   some_told x n its l h = by (its.used.used l h)
     where
-      by : (link : Option K) × (slice_get its.used.links l.began ≡ Some link) × HasUse talk link (given_over x.ran.last l) (put_over x.ran.last l) → SomeTold talk x.ran.last its.used.links l
-      by (link, came, u) = told_by talk x.ran.last its.used.links l link came u
+      by : (link : Option K) × (slice_get its.used.links l.began ≡ Some link) × HasUse talk link (given_over its.last l) (put_over its.last l) → SomeTold talk its.last its.used.links l
+      by (link, came, u) = told_by talk its.last its.used.links l link came u
 
-  run_of : RunsAreOfNodes talk drawn → RanNodesUseLinks talk drawn → (x : RanByCommand talk drawn) → (r : ToldRun) × IsItsToldRun talk drawn x r
-  run_of are links x =
-      let n = node_of talk drawn are links x in
-      let f = λ (l : LinkLife) (h : HasBegun x.ran.last l). (some_told x n.0 n.1 l h).said in (
-        record { node = n.0; told = λ l. pick x.ran.last l (f l) [] (begun_at (slice_get x.ran.last l.began) l) refl },
-        record { its = n.1; told = λ l h. picked (IsToldOver talk x.ran.last n.1.used.links l) x.ran.last l (f l) [] (begun_at (slice_get x.ran.last l.began) l) refl (λ g. (some_told x n.0 n.1 l g).so) h },
+  run_of : RunsAreOfNodes talk drawn → StoppedRunsAreOfNodes talk → RanNodesUseLinks talk drawn → StoppedNodesUseLinks talk drawn
+      → (x : RanByCommand talk drawn) → (r : ToldRun) × IsItsToldRun talk drawn x r
+  run_of are are_stopped links stopped x =
+      let n = node_of talk drawn are are_stopped links stopped x in
+      let M = n.1.last in
+      let f = λ (l : LinkLife) (h : HasBegun M l). (some_told x n.0 n.1 l h).said in (
+        record { node = n.0; told = λ l. pick M l (f l) [] (begun_at (slice_get M l.began) l) refl },
+        record { its = n.1; told = λ l h. picked (IsToldOver talk M n.1.used.links l) M l (f l) [] (begun_at (slice_get M l.began) l) refl (λ g. (some_told x n.0 n.1 l g).so) h },
       )
 
-  runs_of : RunsAreOfNodes talk drawn → RanNodesUseLinks talk drawn → (ran : List (RanByCommand talk drawn)) → (runs : List ToldRun) × InPairs (IsItsToldRun talk drawn) ran runs
-  runs_of are links [] = ([], tt)
-  runs_of are links (x ∷ ran) =
-      let one = run_of are links x in
-      let rest = runs_of are links ran in
+  runs_of : RunsAreOfNodes talk drawn → StoppedRunsAreOfNodes talk → RanNodesUseLinks talk drawn → StoppedNodesUseLinks talk drawn → (ran : List (RanByCommand talk drawn)) → (runs : List ToldRun) × InPairs (IsItsToldRun talk drawn) ran runs
+  runs_of are are_stopped links stopped [] = ([], tt)
+  runs_of are are_stopped links stopped (x ∷ ran) =
+      let one = run_of are are_stopped links stopped x in
+      let rest = runs_of are are_stopped links stopped ran in
       (one.0 ∷ rest.0, (one.1, rest.1))
 
   -- the run of a node of the network, and what the command ran
@@ -109,10 +111,10 @@ module _ {K W : Type 0} (talk : K → Option (List Said)) (drawn : NodeEvent →
     node_told : (k : ℕ) (l : LinkLife) (r : ToldRun) → slice_get runs k ≡ Some r → told_at hubs runs (of_node k l) ≡ r.told l
     node_told k l r got = ap (λ (o : Option ToldRun). unwrap_or (option_map (λ (q : ToldRun). q.told l) o) []) got
 
-    log_is : (k : ℕ) (n : NodeRun) (f : Found runs k n) → log_of n ≡ f.ran.ran.last
+    log_is : (k : ℕ) (n : NodeRun) (f : Found runs k n) → log_of n ≡ f.its.its.last
     log_is k n f = ap log_of (sym f.same) ∙ f.its.its.log_is
 
-    over : (k : ℕ) (l : LinkLife) (n : NodeRun) (f : Found runs k n) → HasBegun (log_of n) l → IsToldOver talk f.ran.ran.last f.its.its.used.links l (f.run.told l)
+    over : (k : ℕ) (l : LinkLife) (n : NodeRun) (f : Found runs k n) → HasBegun (log_of n) l → IsToldOver talk f.its.its.last f.its.its.used.links l (f.run.told l)
     over k l n f begun = f.its.told l (subst (λ (M : Log). HasBegun M l) (log_is k n f) begun)
 
     gave : (x : LinkEnd) (t : Traffic) → HasTraffic (network_of hubs runs) x t → given_in (told_at hubs runs x) ≡ t.given
@@ -137,11 +139,12 @@ module _ {K W : Type 0} (talk : K → Option (List Said)) (drawn : NodeEvent →
 module _ {L C N K W : Type 0} (talk : L → Option (List Said)) (faults : L → ℕ) (notices : L → Option (List Notice)) (readings : C → Option (List ℕ))
     (held : N → Option (List ℕ)) (unput : N → ℕ) (begins : Option (List ℕ) → ℕ → N → Type 0) (said : K → Option (List Said))
     (drawn : NodeEvent → W → W → Type 0) where
-  pub what_ran_delivers_by_wires : HubsThatRanDeliver talk faults notices readings held unput begins → RunsAreOfNodes said drawn → RanNodesUseLinks said drawn → WiresAreLinks
+  pub what_ran_delivers_by_wires : HubsThatRanDeliver talk faults notices readings held unput begins → RunsAreOfNodes said drawn → StoppedRunsAreOfNodes said → RanNodesUseLinks said drawn
+      → StoppedNodesUseLinks said drawn → WiresAreLinks
       → WhatRanDeliversByWires talk faults notices readings held unput begins said drawn
-  what_ran_delivers_by_wires deliver are links wires made ran =
+  what_ran_delivers_by_wires deliver are are_stopped links stopped wires made ran =
       let h = deliver made in
-      let r = runs_of said drawn are links ran in (
+      let r = runs_of said drawn are are_stopped links stopped ran in (
         h.0,
         r.0,
         h.1,

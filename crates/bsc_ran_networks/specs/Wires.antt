@@ -9,7 +9,7 @@ use Rattle.bsc_node_links.specs.Lives.{HasBegun, LinkLife, given_over, put_over}
 use Rattle.bsc_node_links.specs.Talks.{AreFirstOf, given_in, put_in}
 use Rattle.bsc_network_of_runs.specs.Deliveries.{DeliversWhatWasSent}
 use Rattle.bsc_network_of_runs.specs.Hubs.{HubRun, SessionOf}
-use Rattle.bsc_network_of_runs.specs.Networks.{LinkEnd, Network, OtherEnd, of_node, of_session}
+use Rattle.bsc_network_of_runs.specs.Networks.{Network, OtherEnd, of_node, of_session}
 use Rattle.bsc_network_of_runs.specs.Nodes.{NodeRun}
 use Rattle.bsc_network_of_runs.specs.Wires.{AreWires, Talks}
 use Rattle.bsc_hub_runs.specs.Networks.{IsItsRun, MadeByCommand}
@@ -40,7 +40,7 @@ module _ {K W : Type 0} (talk : K → Option (List Said)) (drawn : NodeEvent →
   -- The run is that of a node that the command ran, and this was told on its links.
   pub record IsItsToldRun (x : RanByCommand talk drawn) (r : ToldRun) : Type 0 where
     pub its : IsItsNode talk drawn x r.node
-    pub told : (l : LinkLife) → HasBegun x.ran.last l → IsToldOver talk x.ran.last its.used.links l (r.told l)
+    pub told : (l : LinkLife) → HasBegun its.last l → IsToldOver talk its.last its.used.links l (r.told l)
 
 -- what was told on the link of a session of a hub while it was served
 abbrev pub talk_of : ℕ → HubRun → List Said
