@@ -6,6 +6,7 @@ use Rattle.std.specs.Option.{option_map}
 use Rattle.std.specs.List.{AllByRecursion}
 use Rattle.bsc_network.specs.Changes.{changed_at}
 use Rattle.bsc_lemmas.proofs.Lists.{all_append as all-joined}
+use Rattle.bsc_lemmas.proofs.Numbers.{same_suc}
 use Rattle.std.proofs.lemmas.Option.{same_Some as some_same}
 
 -- What a change keeps of each element, it keeps of the list.
@@ -63,11 +64,6 @@ got-changed (suc i) f (x ∷ xs) (suc j) y h = next (got-changed i f xs j y h)
     next (inr (z, same, at, is)) = inr (z, ap suc same, at, is)
 
 -- an element stays where it is when others come behind it
-pub got-longer : {A : Type 0} (xs ys : List A) (i : ℕ) (x : A) → slice_get xs i ≡ Some x → slice_get (xs ++ ys) i ≡ Some x
-got-longer [] ys i x h = cc
-got-longer (y ∷ xs) ys zero x h = h
-got-longer (y ∷ xs) ys (suc i) x h = got-longer xs ys i x h
-
 pub got-last : {A : Type 0} (xs : List A) (x : A) → slice_get (xs ++ x ∷ []) (length xs) ≡ Some x
 got-last [] x = refl
 got-last (y ∷ xs) x = got-last xs x
@@ -101,10 +97,7 @@ pub one_or_two : (m n : ℕ) → (m ≡ n) ⊎ (m ≢ n)
 one_or_two zero zero = inl refl
 one_or_two zero (suc n) = inr (λ e. cc)
 one_or_two (suc m) zero = inr (λ e. cc)
-one_or_two (suc m) (suc n) = elim (one_or_two m n) [ inl e ↦ inl (ap suc e) | inr other ↦ inr (λ e. other (suc_same m n e)) ]
-  where
-    suc_same : (a b : ℕ) → suc a ≡ suc b → a ≡ b
-    suc_same a b e = cc
+one_or_two (suc m) (suc n) = elim (one_or_two m n) [ inl e ↦ inl (ap suc e) | inr other ↦ inr (λ e. other (same_suc m n e)) ]
 
 pub get-set_other : {A : Type 0} (xs : List A) (i j : ℕ) (y : A) → i ≢ j → slice_get (set xs i y) j ≡ slice_get xs j
 get-set_other [] i j y apart = refl

@@ -43,11 +43,17 @@ abbrev pub HasContent : WorldStep → Type 0
 HasContent (OfNode k (Send dest npdu)) = (0 < length npdu) × (same_vmac dest zero_vmac ≡ false)
 HasContent step = ⊤
 
+-- What is sent goes to an address of six octets. In code each address has six.
+abbrev pub IsWhole : WorldStep → Type 0
+IsWhole (OfNode k (Send dest npdu)) = length dest.0 ≡ 6
+IsWhole step = ⊤
+
 -- A step may be made at its time after one at this time: time doesn't fall, and is below 2^62.
 pub record MayMake (before : ℕ) (t : TimedStep) : Type 0 where
   pub later : before ≤ t.now
   pub in_range : t.now < 2 ^ 62
   pub content : HasContent t.step
+  pub whole : IsWhole t.step
 
 -- When the newest of some steps was made, and this time where there is none.
 abbrev pub end_time : ℕ → List TimedStep → ℕ

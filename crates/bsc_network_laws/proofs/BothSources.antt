@@ -1,17 +1,18 @@
 -- What a node delivers that came from a hub came from the Send at its place; so each delivery has its source.
-use Rattle.std.proofs.Common.{◌≡◌, inl, ℕ, true, List, ◌∷◌, ◌++◌, Option, Some, refl, ap, sym, subst, ◌∙◌}
+use Rattle.std.proofs.Common.{◌≡◌, inl, ℕ, true, List, [], ◌∷◌, ◌++◌, Option, Some, refl, ap, sym, subst, ◌∙◌}
 use Rattle.std.specs.Prelude.{length, slice_get}
 use Rattle.std.specs.List.{AllByRecursion}
 use Rattle.std.proofs.lemmas.List.{map-append}
 use Rattle.std.proofs.lemmas.Option.{slice_get-map}
 use Rattle.bsc_octets.specs.declared.vmac.Vmac.{Vmac}
 use Rattle.bsc_octets.specs.Forwarding.{out}
+use Rattle.bsc_octets.specs.Functions.{is_npdu}
 use Rattle.bsc_checks.specs.declared.verdict.Verdict.TheVariants.{Pass}
 use Rattle.bsc_checks.specs.Outcomes.{outcome_of}
 use Rattle.bsc_history.specs.declared.connection.Connection.{Connection}
 use Rattle.bsc_history.specs.Ends.{joined, live}
 use Rattle.bsc_history.proofs.Lists.{In, In_from_all}
-use Rattle.bsc_history.proofs.Connections.{joined_in}
+use Rattle.bsc_history.proofs.Connections.{found_in, joined_in}
 use Rattle.bsc_node.specs.declared.node_event.NodeEvent.{NodeEvent}
 use Rattle.bsc_node.specs.declared.node_event.NodeEvent.TheVariants.{Send}
 use Rattle.bsc_node.specs.Laws.{with_event, with_heard, delivery}
@@ -27,9 +28,10 @@ use Rattle.bsc_network.specs.declared.arrival.Arrival.{Arrival}
 use Rattle.bsc_network.specs.Worlds.{World, Hub, Node, Link, Posted, entries, history, traffic}
 use Rattle.bsc_network.specs.Outboxes.{Frame}
 use Rattle.bsc_network.proofs.Places.{found-in}
-use Rattle.bsc_network_laws.specs.Deliveries.{Sends, IsWhole, HasAddress}
+use Rattle.bsc_network.specs.declared.parcel.Content.TheVariants.{Message}
+use Rattle.bsc_network.specs.Courses.{IsWhole, MayMakeAll}
+use Rattle.bsc_network_laws.specs.Deliveries.{IsAmong, Sends}
 use Rattle.bsc_network_laws.specs.Ends.{receiver, putter, messages}
-use Rattle.bsc_node_identity.specs.Npdus.{is_npdu}
 use Rattle.bsc_network_laws.specs.Carrying.{Sendings}
 use Rattle.bsc_network_laws.specs.Naming.{Cast}
 use Rattle.bsc_network_laws.specs.Connecting.{IsOfDialler, JoinsDiallers}
@@ -44,7 +46,7 @@ use Rattle.bsc_network_laws.proofs.HubsThere.{HubsThere, hub-found}
 use Rattle.bsc_network_laws.proofs.HubsThere as There
 use Rattle.bsc_network_laws.proofs.SentOnLinks.{IsCounted}
 use Rattle.bsc_network_laws.proofs.Numbering.{joined_longer}
-use Rattle.bsc_network_laws.proofs.Passing.{KnowsHistories, all_unfiltered, found_in, passes}
+use Rattle.bsc_network_laws.proofs.Passing.{KnowsHistories, all_unfiltered, passes}
 use Rattle.bsc_network_laws.proofs.ComingDown.{comes_down}
 use Rattle.bsc_network_laws.proofs.Histories.{keeps_both, keeps_as, whole_as, knows_histories}
 use Rattle.bsc_node_identity.proofs.PassedOn.{IsDeliveredSo, passed_so}
@@ -55,7 +57,7 @@ use Rattle.bsc_network_laws.proofs.Brought.{at_once}
 use Rattle.bsc_network_laws.proofs.MadeWell.{MadeWell}
 use Rattle.bsc_network_laws.proofs.OtherEnds.{KnowsEnds, knows_ends}
 use Rattle.bsc_network_laws.proofs.DirectLinks.{AllDirect}
-use Rattle.bsc_network_laws.proofs.Directly.{direct_stays}
+use Rattle.bsc_network_laws.proofs.Directly.{direct_stays, each-among}
 use Rattle.bsc_node_identity.proofs.Npdus.{passed-npdu}
 use Rattle.bsc_network_laws.proofs.Reached.{UpLaw}
 use Rattle.bsc_network_laws.proofs.Sources.{AllFrom, HubsPart, KnowsSources, from-same, from-hears}
@@ -66,11 +68,18 @@ use Rattle.bsc_network.proofs.Common.{same_node}
 abbrev pub AreWhole : Sendings → Type 0
 AreWhole S = (place k : ℕ) (dest : Vmac) (npdu : List ℕ) → S place k dest npdu → length dest.0 ≡ 6
 
--- So it is with steps in which what is sent goes to such an address.
-pub sends_whole : (steps : List TimedStep) → AllByRecursion HasAddress steps → AreWhole (Sends steps)
-sends_whole steps all place k dest npdu sent =
+abbrev HasAddress : TimedStep → Type 0
+HasAddress t = IsWhole t.step
+
+each_whole : (before : ℕ) (steps : List TimedStep) → MayMakeAll before steps → AllByRecursion HasAddress steps
+each_whole before [] may = tt
+each_whole before (t ∷ steps) may = (may.0.whole, each_whole t.now steps may.1)
+
+-- So it is with steps that may be made.
+pub sends_whole : (steps : List TimedStep) → MayMakeAll 0 steps → AreWhole (Sends steps)
+sends_whole steps may place k dest npdu sent =
     let there = found-in (λ (t : TimedStep). t.step) (slice_get steps place) (OfNode k (Send dest npdu)) (sym (slice_get-map (λ (t : TimedStep). t.step) steps place) ∙ sent) in
-    subst IsWhole there.2 (all-at HasAddress steps place there.0 all there.1)
+    subst IsWhole there.2 (all-at HasAddress steps place there.0 (each_whole 0 steps may) there.1)
 
 -- what is known besides, of hubs
 pub record KnowsHubs (cast : Cast) (S : Sendings) (T place : ℕ) (w : World) : Type 0 where
@@ -97,7 +106,7 @@ hubs_part cast fit S whole T place w k n by e known name o c j msg npdu v comes 
   p.2.sender,
   p.2.dest,
   subst (S a.sent_at p.2.sender p.2.dest) (sym so.npdu_is) p.2.sends,
-  inl (came_by_hub S w a.link j h.0 c.link (record { octets = o; sent_at = a.sent_at }) p d c.found h.1 node refl (whole a.sent_at p.2.sender p.2.dest p.2.npdu p.2.sends) so),
+  inl (came_by_hub S w a.link j h.0 c.link (record { octets = o; sent_at = a.sent_at }) p d c.found h.1 leads stands node refl (whole a.sent_at p.2.sender p.2.dest p.2.npdu p.2.sends) so),
 )
   where
     a : Arrival
@@ -111,6 +120,12 @@ hubs_part cast fit S whole T place w k n by e known name o c j msg npdu v comes 
 
     leads : c.link.to ≡ ToHub j
     leads = sym (ap (λ way. putter way c.link) down) ∙ puts
+
+    stood : slice_get c.link.down.put c.place ≡ Some (record { content = Message o; sent_at = a.sent_at })
+    stood = sym (ap (λ way. slice_get (traffic way c.link).put c.place) down) ∙ c.stood
+
+    stands : IsAmong (messages c.link.down) (record { octets = o; sent_at = a.sent_at })
+    stands = all-messages (IsAmong (messages c.link.down)) c.link.down.put c.place o a.sent_at (each-among (messages c.link.down)) stood
 
     node : c.link.from ≡ k
     node = same_node c.link.from k (sym (ap (λ way. receiver way c.link) down) ∙ c.heard)
@@ -126,7 +141,7 @@ hubs_part cast fit S whole T place w k n by e known name o c j msg npdu v comes 
         all-messages (λ f. is_npdu f.octets ≡ true → IsPassedBy S w h.0.posted a.link f) c.link.down.put c.place o a.sent_at
         (all_unfiltered (IsPassedBy S w h.0.posted a.link) (λ f. is_npdu f.octets) (messages c.link.down)
         (comes_down S w known.histories.sides.joined known.histories.legally known.histories.sides.names.0.0.sides known.passes a.link j h.0 c.link c.found leads h.1))
-        (sym (ap (λ way. slice_get (traffic way c.link).put c.place) down) ∙ c.stood) npdu_so
+        stood npdu_so
 
     dialler : IsOfDialler cast w p.2.from
     dialler =

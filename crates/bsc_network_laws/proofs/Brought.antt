@@ -7,6 +7,7 @@ use Rattle.std.proofs.lemmas.List.Elements.{filter_map-append}
 use Rattle.std.proofs.lemmas.List.Folds.{list_any-append}
 use Rattle.bsc_octets.specs.declared.vmac.Vmac.{Vmac}
 use Rattle.bsc_octets.specs.declared.identity.Identity.{Identity}
+use Rattle.bsc_octets.specs.Functions.{is_npdu}
 use Rattle.bsc_frame.specs.declared.message.Message.{Message}
 use Rattle.bsc_frame.specs.declared.body.Body.TheVariants.{Npdu}
 use Rattle.bsc_checks.specs.declared.place.Place.{Place}
@@ -40,7 +41,6 @@ use Rattle.bsc_node_identity.proofs.Events.{peer-goes_on}
 use Rattle.bsc_node_identity.proofs.Leading.{ways_lead_there}
 use Rattle.bsc_node_identity.proofs.Timely.{Timely, may_then}
 use Rattle.bsc_network.specs.NodeEvents.{brings_about}
-use Rattle.bsc_node_identity.specs.Npdus.{is_npdu}
 use Rattle.bsc_network_laws.proofs.Acting.{Among}
 use Rattle.bsc_network_laws.proofs.Events.{among-both}
 use Rattle.bsc_network_laws.proofs.Sent.{IsOfSend, put_is_of_send}

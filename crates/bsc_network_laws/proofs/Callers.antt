@@ -30,7 +30,7 @@ use Rattle.bsc_network.specs.HubSides.{told}
 use Rattle.bsc_network.specs.NodeSides.{other_way, hold_of, puts_on, puts_by}
 use Rattle.bsc_network.specs.Dialling.{dials, fails, new_link}
 use Rattle.bsc_network.specs.NodeEvents.{takes_as, delivers, forgets_failure}
-use Rattle.bsc_network.proofs.Places.{all-mapped, got-changed, got-longer}
+use Rattle.bsc_network.proofs.Places.{all-mapped, got-changed}
 use Rattle.bsc_network_laws.specs.Connecting.{IsOfLink, JoinByLinks}
 use Rattle.bsc_network_laws.proofs.Moves.{IsSide, IsSaid, says_joined, Each}
 use Rattle.bsc_network_laws.proofs.Acting.{goes_on_in, LetsActs, lets-hears}
@@ -40,7 +40,7 @@ use Rattle.bsc_network_laws.proofs.SideFits.{no_conn}
 use Rattle.bsc_network_laws.proofs.Taken.{SidesFit, LinkFits, not_joined}
 use Rattle.bsc_network_laws.proofs.Knowing.{Knows}
 use Rattle.bsc_history.proofs.Common.{one_made}
-use Rattle.bsc_lemmas.proofs.Lists.{all-at, all_append as all-joined}
+use Rattle.bsc_lemmas.proofs.Lists.{all-at, all_append as all-joined, got-left}
 use Rattle.std.proofs.lemmas.Option.{same_Some as some_same}
 
 -- ---- links that last
@@ -191,7 +191,7 @@ lets_acts k by = record {
     puts = λ w name o known. by-puts_by w k name (Message o);
     closes = λ w name. by-puts_by w k name Closed;
     takes = λ w name a is known. by-still w (takes_as k name a w) refl refl;
-    dials_as = λ w name uri t known leads. by-same w (dials k name t w) refl (λ l x h. (x, got-longer w.links (new_link w k t ∷ []) l x h, lasting-same x));
+    dials_as = λ w name uri t known leads. by-same w (dials k name t w) refl (λ l x h. (x, got-left w.links (new_link w k t ∷ []) l x h, lasting-same x));
     fails_as = λ w name. by-still w (fails name w) refl refl;
     refuses_it = λ w a is. by-way w a.link (other_way a.way) _;
     delivers_one = λ w d a is known. by-still w (delivers k d a w) refl refl;

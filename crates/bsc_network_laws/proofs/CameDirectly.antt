@@ -6,6 +6,7 @@ use Rattle.std.specs.Option.{option_map}
 use Rattle.std.proofs.lemmas.List.Elements.{filter_map-append}
 use Rattle.bsc_octets.specs.declared.identity.Identity.{Identity}
 use Rattle.bsc_octets.specs.declared.vmac.Vmac.{Vmac}
+use Rattle.bsc_octets.specs.Functions.{is_npdu}
 use Rattle.bsc_frame.specs.declared.message.Message.{Message}
 use Rattle.bsc_frame.specs.declared.body.Body.TheVariants.{Npdu}
 use Rattle.bsc_checks.specs.declared.verdict.Verdict.TheVariants.{Pass}
@@ -38,7 +39,6 @@ use Rattle.bsc_network.specs.NodeEvents.{brings_about}
 use Rattle.bsc_network.specs.Outboxes.{Frame}
 use Rattle.bsc_network.proofs.Places.{get-changed, all-found, all-reversed}
 use Rattle.bsc_network_laws.specs.Ends.{putter, message_of, messages}
-use Rattle.bsc_node_identity.specs.Npdus.{is_npdu}
 use Rattle.bsc_network_laws.specs.Carrying.{Sendings}
 use Rattle.bsc_network_laws.specs.Deliveries.{IsAmong, SentOver, HeardOver, CameDirectly}
 use Rattle.bsc_network_laws.specs.Naming.{Cast}
@@ -184,7 +184,7 @@ came_directly S cast w k n by e name o other c msg npdu v passed body from = (
 
 -- ---- it stays so
 
-traffic-grows : (way : Way) (x y : Link) → LinkGrows x y → Longer (messages (traffic way x)) (messages (traffic way y))
+pub traffic-grows : (way : Way) (x y : Link) → LinkGrows x y → Longer (messages (traffic way x)) (messages (traffic way y))
 traffic-grows Up x y g = record { more = filter_map message_of g.up.more; is = ap (filter_map message_of) g.up.is ∙ filter_map-append message_of x.up.put g.up.more }
 traffic-grows Down x y g = record { more = filter_map message_of g.down.more; is = ap (filter_map message_of) g.down.is ∙ filter_map-append message_of x.down.put g.down.more }
 

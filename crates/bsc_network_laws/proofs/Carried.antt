@@ -1,13 +1,13 @@
 -- The laws on what comes down from hubs, on what nodes put, on who names itself, and on who is connected.
 use Rattle.bsc_network.specs.Worlds.{Node}
-use Rattle.std.proofs.Common.{List}
+use Rattle.std.proofs.Common.{List, Option, ap, ◌∙◌}
 use Rattle.std.specs.List.{AllByRecursion}
 use Rattle.bsc_network.specs.declared.timed_step.TimedStep.{TimedStep}
 use Rattle.bsc_network.specs.Settings.{Added}
 use Rattle.bsc_network.specs.Courses.{IsCourse}
 use Rattle.bsc_network.specs.Networks.{world, deliveries}
 use Rattle.bsc_network.proofs.Places.{all-mapped}
-use Rattle.bsc_network_laws.specs.Deliveries.{Sends, IsFromItsSend, HasAddress}
+use Rattle.bsc_network_laws.specs.Deliveries.{Sends, IsFromItsSend}
 use Rattle.bsc_network_laws.proofs.Sources.{IsFrom}
 use Rattle.bsc_network_laws.proofs.BothSources.{sends_whole}
 use Rattle.bsc_network_laws.specs.Carried.{DownIsTaken, TakenComesDown, PutBySend, PutsWhatWasSent}
@@ -17,7 +17,9 @@ use Rattle.bsc_network_laws.specs.Passing.{OutboxesHaveWhatWasSent, WhatComesDow
 use Rattle.bsc_network_laws.proofs.ComingDown.{comes_down}
 use Rattle.bsc_network_laws.proofs.Taken.{LinkFits}
 use Rattle.bsc_network_laws.proofs.SentOnLinks.{LinkSent}
+use Rattle.bsc_network_laws.specs.Delivering.{DeliveriesAreAll, delivered_in}
 use Rattle.bsc_network_laws.specs.Peers.{PeersAreThere}
+use Rattle.bsc_network_laws.proofs.AllDelivered.{logged}
 use Rattle.bsc_network_laws.proofs.Casting.{Stays}
 use Rattle.bsc_network_laws.proofs.Reached.{UpLaw}
 use Rattle.bsc_network_laws.proofs.Running.{runs}
@@ -61,9 +63,12 @@ peers_are_there added steps course k slot n who here established =
     let stays : Stays n.made n.log = all-at (λ (m : Node). Stays m.made m.log) (world added steps).nodes k n r.casts.stays here in
     r.ends.peers k n slot who here (stays.knit.peers slot who established)
 
+pub deliveries_are_all : DeliveriesAreAll
+deliveries_are_all added steps k n course here = (runs added steps course).2.every.each k ∙ ap (λ (o : Option Node). delivered_in (logged o)) here
+
 -- Each delivery comes from the Send at its place.
-pub each_from_its_send : UpLaw → (added : List Added) (steps : List TimedStep) → IsCourse added steps → AllByRecursion HasAddress steps
+pub each_from_its_send : UpLaw → (added : List Added) (steps : List TimedStep) → IsCourse added steps
     → AllByRecursion (IsFromItsSend steps (world added steps)) (deliveries added steps)
-each_from_its_send law added steps course whole =
+each_from_its_send law added steps course =
     all-mapped (IsFrom (Sends steps) (world added steps)) (IsFromItsSend steps (world added steps)) (λ d from. record { sender = from.0; dest = from.1; sends = from.2; came = from.3 }) (deliveries added steps)
-    ((runs added steps course).2.from law (sends_whole steps whole))
+    ((runs added steps course).2.from law (sends_whole steps course.made_all))

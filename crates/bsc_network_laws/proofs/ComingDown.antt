@@ -6,7 +6,7 @@ use Rattle.bsc_history.specs.declared.connection.Connection.{Connection}
 use Rattle.bsc_history.specs.declared.entry.Entry.{Entry}
 use Rattle.bsc_history.specs.Ends.{joined, live}
 use Rattle.bsc_history.proofs.Lists.{In}
-use Rattle.bsc_history.proofs.Connections.{joined_in}
+use Rattle.bsc_history.proofs.Connections.{found_in, joined_in}
 use Rattle.bsc_history.specs.Legality.{Legal}
 use Rattle.bsc_network.specs.Worlds.{World, Hub, Posted, entries, history}
 use Rattle.bsc_network.specs.Outboxes.{Frame, frames}
@@ -16,7 +16,7 @@ use Rattle.bsc_network_laws.specs.Passing.{IsPassedOn, IsPassedTo, IsPassedBy, P
 use Rattle.bsc_network_laws.proofs.Taken.{SidesFit, LinkFits}
 use Rattle.bsc_network_laws.proofs.Joins.{SidesJoined}
 use Rattle.bsc_network_laws.proofs.Legally.{Legally}
-use Rattle.bsc_network_laws.proofs.Passing.{found_in, joined_by}
+use Rattle.bsc_network_laws.proofs.Passing.{joined_by}
 use Rattle.bsc_network_laws.proofs.Numbering.{joined_longer}
 use Rattle.bsc_network_laws.proofs.OutboxOnce.{all-taken}
 use Rattle.bsc_lemmas.proofs.Lists.{all-at}

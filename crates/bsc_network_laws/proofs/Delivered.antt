@@ -6,7 +6,7 @@ use Rattle.bsc_network_laws.proofs.DeliveredOnce.{none_is_delivered_twice}
 use Rattle.bsc_network_laws.proofs.Reached.{UpLaw}
 
 pub delivers_by : UpLaw → NetworksDeliverWhatWasSent
-delivers_by law added steps course whole = record { each = each_from_its_send law added steps course whole; once = none_is_delivered_twice added steps course }
+delivers_by law added steps course = record { each = each_from_its_send law added steps course; once = none_is_delivered_twice added steps course }
 
 -- The same, for the proofs of other crates.
 pub networks_deliver_what_was_sent : NetworksDeliverWhatWasSent

@@ -22,7 +22,7 @@ use Rattle.bsc_network.specs.Changes.{with_link, with_side, with_traffic, puts_a
 use Rattle.bsc_network.specs.Outboxes.{Frame}
 use Rattle.bsc_network.specs.NodeSides.{other_way}
 use Rattle.bsc_network.specs.Dialling.{new_link}
-use Rattle.bsc_network.proofs.Places.{got-changed, got-longer, got-last_of, all-mapped}
+use Rattle.bsc_network.proofs.Places.{got-changed, got-last_of, all-mapped}
 use Rattle.bsc_network_laws.specs.Ends.{receiver, putter, message_of, messages}
 use Rattle.bsc_network_laws.specs.Carrying.{Sendings, npdus}
 use Rattle.bsc_network_laws.specs.Deliveries.{IsAmong, SentOver}
@@ -31,7 +31,7 @@ use Rattle.bsc_network_laws.proofs.Moves.{IsSide}
 use Rattle.bsc_network_laws.proofs.SideFits.{npdus-more}
 use Rattle.bsc_network_laws.proofs.Lasting.{Longer, NodeGrows, Lasts, lasts-longer, lasts-puts}
 use Rattle.bsc_network_laws.proofs.Lasting as Lasting
-use Rattle.bsc_lemmas.proofs.Lists.{all_append as all-joined}
+use Rattle.bsc_lemmas.proofs.Lists.{all_append as all-joined, got-left}
 use Rattle.bsc_network.proofs.Common.{not_both}
 use Rattle.std.proofs.lemmas.Option.{same_Some as some_same}
 
@@ -64,7 +64,7 @@ AllDirect S cast w = (l : ℕ) (x : Link) (way : Way) (k j : ℕ) → IsDirect w
 -- ---- what was sent so stays so
 
 pub among-longer : {A : Type 0} (xs ys : List A) (x : A) → Longer xs ys → IsAmong xs x → IsAmong ys x
-among-longer xs ys x g (place, here) = (place, ap (λ (l : List _). slice_get l place) g.is ∙ got-longer xs g.more place x here)
+among-longer xs ys x g (place, here) = (place, ap (λ (l : List _). slice_get l place) g.is ∙ got-left xs g.more place x here)
 
 -- An event stays in the log of a node behind what stood before it.
 pub log-grows : (n m : Node) (before : Log) (e : TimedEvent) (later : List Line) (g : NodeGrows n m) → n.log ≡ before ++ came e ∷ later → m.log ≡ before ++ came e ∷ (later ++ g.log.more)

@@ -7,6 +7,7 @@ use Rattle.std.specs.List.{AllByRecursion}
 use Rattle.bsc_direct.proofs.OneMore.{both_ways}
 use Rattle.bsc_octets.specs.declared.identity.Identity.{Identity}
 use Rattle.bsc_octets.specs.declared.vmac.Vmac.{Vmac}
+use Rattle.bsc_octets.specs.Functions.{is_npdu}
 use Rattle.bsc_connector.specs.Back.{newest}
 use Rattle.bsc_frame.specs.declared.body.Body.TheVariants.{Npdu}
 use Rattle.bsc_history.specs.declared.call.Call.TheVariants.{Connect}
@@ -41,7 +42,6 @@ use Rattle.bsc_network.specs.Dialling.{new_link}
 use Rattle.bsc_network.specs.NodeEvents.{brings_about, hears}
 use Rattle.bsc_network.proofs.Places.{got-changed, get-changed, all-mapped, all-found, all-reversed}
 use Rattle.bsc_network_laws.specs.Ends.{receiver, putter, message_of}
-use Rattle.bsc_node_identity.specs.Npdus.{is_npdu}
 use Rattle.bsc_network_laws.specs.Carrying.{Sendings, npdus}
 use Rattle.bsc_network_laws.specs.Deliveries.{IsAmong}
 use Rattle.bsc_network_laws.specs.Naming.{Cast}

@@ -3,6 +3,7 @@
 use Rattle.std.proofs.Common.{◌≡◌, ◌<◌, ◌⊎◌, inl, inr, ℕ, suc, Bool, true, false, List, [], ◌∷◌, ◌++◌, Option, Some, None, refl, ap, sym, subst, ◌∙◌, arith}
 use Rattle.std.specs.Prelude.{◌+◌, length, slice_get, ⊤}
 use Rattle.std.specs.Option.{option_map}
+use Rattle.bsc_octets.specs.Functions.{is_npdu}
 use Rattle.bsc_history.specs.declared.call.Call.{Call}
 use Rattle.bsc_history.specs.declared.call.Call.TheVariants.{Connect, Forward, Stop as StopCall}
 use Rattle.bsc_accept.specs.declared.event.Event.{Event}
@@ -22,7 +23,6 @@ use Rattle.bsc_network.specs.HubCalls.{called, entry_in}
 use Rattle.bsc_network.specs.HubSides.{told}
 use Rattle.bsc_network.specs.NodeSides.{hold_of, puts_on, puts_by}
 use Rattle.bsc_network.proofs.Places.{got-changed, got-last_of, get-changed}
-use Rattle.bsc_node_identity.specs.Npdus.{is_npdu}
 use Rattle.bsc_network_laws.proofs.Moves.{IsSide, HasArrived, Lets}
 use Rattle.bsc_network_laws.proofs.Acting.{goes_on_in, LetsActs, lets-hears}
 use Rattle.bsc_network_laws.proofs.Beside.{Keeps}

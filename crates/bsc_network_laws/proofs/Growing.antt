@@ -18,9 +18,10 @@ use Rattle.bsc_network.specs.Changes.{with_found, with_link, with_side, with_tra
 use Rattle.bsc_network.specs.HubCalls.{called}
 use Rattle.bsc_network.specs.NodeSides.{other_way, hold_of, puts_on, puts_by}
 use Rattle.bsc_network.specs.Dialling.{new_link}
-use Rattle.bsc_network.proofs.Places.{get-changed, get-other, got-longer, one_or_two}
+use Rattle.bsc_network.proofs.Places.{get-changed, get-other, one_or_two}
 use Rattle.bsc_network_laws.proofs.Moves.{Lets}
 use Rattle.bsc_network_laws.proofs.Acting.{LetsActs, lets-hears}
+use Rattle.bsc_lemmas.proofs.Lists.{got-left}
 
 -- ---- one way, and one link
 
@@ -31,7 +32,7 @@ pub record Longer (s t : Traffic) : Type 0 where
 
 -- what stands there does so still
 pub stays-at : (s t : Traffic) → Longer s t → (i : ℕ) (x : Parcel) → slice_get s.put i ≡ Some x → slice_get t.put i ≡ Some x
-stays-at s t g i x h = ap (λ (xs : List Parcel). slice_get xs i) g.put ∙ got-longer s.put g.more i x h
+stays-at s t g i x h = ap (λ (xs : List Parcel). slice_get xs i) g.put ∙ got-left s.put g.more i x h
 
 pub longer-none : (t : Traffic) → Longer t t
 longer-none t = record { more = []; put = sym (append-nil t.put); arrived = omega arith }
@@ -120,7 +121,7 @@ pub grows-side : (w : World) (l : ℕ) (f : HubSide → HubSide) → Grows w (wi
 grows-side w l f = grows-link w l (λ link. record link { side = f link.side }) (link-side f)
 
 grows-longer : (w : World) (y : Link) → Grows w (record w { links = w.links ++ y ∷ [] })
-grows-longer w y = record { grown = λ l x here. (x, got-longer w.links (y ∷ []) l x here, link-none x) }
+grows-longer w y = record { grown = λ l x here. (x, got-left w.links (y ∷ []) l x here, link-none x) }
 
 pub grows-puts_by : (w : World) (k : ℕ) (name : LinkName) (content : Content) → Grows w (puts_by k name content w)
 grows-puts_by w k name content = at_node (node_at w k)

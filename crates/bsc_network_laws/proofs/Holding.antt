@@ -25,12 +25,12 @@ use Rattle.bsc_network.specs.NodeSides.{hold_of, puts_on, puts_by, holds}
 use Rattle.bsc_network.specs.Dialling.{dials, new_link}
 use Rattle.bsc_network.specs.NodeEvents.{brings_about}
 use Rattle.bsc_network.specs.Networks.{makes}
-use Rattle.bsc_network.proofs.Places.{kept-at, got-changed, got-longer, got-last, all-mapped, found-in}
+use Rattle.bsc_network.proofs.Places.{kept-at, got-changed, got-last, all-mapped, found-in}
 use Rattle.bsc_network_laws.specs.Ends.{receiver}
 use Rattle.bsc_network_laws.proofs.Moves.{IsHeardBy, Comes, Lets}
 use Rattle.bsc_network_laws.proofs.Acting.{goes_on_in, LetsActs, lets-hears}
 use Rattle.bsc_network_laws.proofs.Stepping.{begun, lets-makes}
-use Rattle.bsc_lemmas.proofs.Lists.{all-push as all-one_more}
+use Rattle.bsc_lemmas.proofs.Lists.{all-push as all-one_more, got-left}
 use Rattle.std.proofs.lemmas.Option.{same_Some as some_same}
 
 -- ---- what is kept
@@ -111,7 +111,7 @@ keep-hold w k h end = record { ends = λ l way j g. g; holds = λ fit j n here. 
 keep-longer : (w : World) (x : Link) → Keep w (record w { links = w.links ++ x ∷ [] })
 keep-longer w x = keep-links w (record w { links = w.links ++ x ∷ [] }) refl (λ l way k heard.
     let there = found-in (receiver way) (link_at w l) (ToNode k) heard in
-    ap (option_map (receiver way)) (got-longer w.links (x ∷ []) l there.0 there.1) ∙ ap Some there.2)
+    ap (option_map (receiver way)) (got-left w.links (x ∷ []) l there.0 there.1) ∙ ap Some there.2)
 
 keep-dials : (w : World) (k : ℕ) (name : LinkName) (t : Target) → Keep w (dials k name t w)
 keep-dials w k name t =

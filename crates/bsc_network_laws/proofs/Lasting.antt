@@ -21,10 +21,11 @@ use Rattle.bsc_network.specs.Changes.{changed_at, with_found, with_hub, with_nod
 use Rattle.bsc_network.specs.HubCalls.{called}
 use Rattle.bsc_network.specs.NodeSides.{hold_of, puts_on, puts_by, holds}
 use Rattle.bsc_network.specs.Dialling.{dials, new_link}
-use Rattle.bsc_network.proofs.Places.{get-changed, get-other, got-longer, one_or_two}
+use Rattle.bsc_network.proofs.Places.{get-changed, get-other, one_or_two}
 use Rattle.bsc_network_laws.proofs.Moves.{Lets}
 use Rattle.bsc_network_laws.proofs.Acting.{goes_on_in, LetsActs, lets-hears}
 use Rattle.bsc_network_laws.proofs.Sides.{with_call}
+use Rattle.bsc_lemmas.proofs.Lists.{got-left}
 
 -- ---- lists
 
@@ -60,7 +61,7 @@ stay-changed R none j f step xs = record { at = λ i x h. by i x h (one_or_two j
     by i x h (inr apart) = (x, get-other j f xs i apart ∙ h, none x)
 
 stay-longer : {A : Type 0} (R : A → A → Type 0) → ((x : A) → R x x) → (xs more : List A) → AllStay R xs (xs ++ more)
-stay-longer R none xs more = record { at = λ i x h. (x, got-longer xs more i x h, none x) }
+stay-longer R none xs more = record { at = λ i x h. (x, got-left xs more i x h, none x) }
 
 -- ---- hubs, nodes and links
 

@@ -41,6 +41,7 @@ pub mod Directly
 pub mod CameDirectly
 pub mod Sources
 pub mod Growing
+pub mod Adding
 pub mod AtMost
 pub mod Placed
 pub mod PutOnce
@@ -49,6 +50,7 @@ pub mod ForwardedOnce
 pub mod OutboxOnce
 pub mod HubsThere
 pub mod ComeOnce
+pub mod AllDelivered
 pub mod BothSources
 pub mod Running
 pub mod DeliveredOnce

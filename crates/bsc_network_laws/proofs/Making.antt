@@ -26,7 +26,7 @@ use Rattle.bsc_network.specs.HubSides.{leaves_as, leaves, closes, start, step_at
 use Rattle.bsc_network.specs.Taking.{takes_next, takes}
 use Rattle.bsc_network.proofs.Places.{kept-at}
 use Rattle.bsc_network_laws.proofs.Moves.{IsSide, HasArrived, IsWanted, IsTold, IsSaid, says_joined}
-use Rattle.bsc_node_identity.proofs.OwnOctets.{IsJudged}
+use Rattle.bsc_accept.proofs.OwnOctets.{IsJudged}
 use Rattle.bsc_network_laws.proofs.Beginning.{HasJustCome, after_arrival, LetsStep as Lets}
 use Rattle.bsc_network_laws.proofs.Sides.{lets-at, lets-of_side, going_on, side-side, side-puts, side-called, with_call}
 

@@ -22,7 +22,7 @@ use Rattle.bsc_node.specs.declared.link_name.LinkName.{LinkName}
 use Rattle.bsc_node.specs.declared.node_event.NodeEvent.{NodeEvent}
 use Rattle.bsc_node.specs.declared.node_event.NodeEvent.TheVariants.{DialFailed, Lost}
 use Rattle.bsc_node.specs.Conditions.{fits}
-use Rattle.bsc_node_identity.proofs.OwnOctets.{IsJudged}
+use Rattle.bsc_accept.proofs.OwnOctets.{IsJudged}
 use Rattle.bsc_network.specs.declared.world_step.WorldStep.{WorldStep}
 use Rattle.bsc_network.specs.declared.world_step.WorldStep.TheVariants.{Node as OfNode}
 use Rattle.bsc_network.specs.declared.way.Way.{Way}

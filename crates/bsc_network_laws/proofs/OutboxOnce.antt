@@ -6,6 +6,7 @@ use Rattle.std.proofs.lemmas.List.Elements.{filter-append, filter_map-append}
 use Rattle.std.proofs.lemmas.Bool.{eqb-true, and_parts}
 use Rattle.bsc_octets.specs.declared.vmac.Vmac.{Vmac}
 use Rattle.bsc_octets.specs.Forwarding.{out}
+use Rattle.bsc_octets.specs.Functions.{is_npdu}
 use Rattle.bsc_history.specs.declared.limits.About.{About}
 use Rattle.bsc_history.specs.declared.entry.Entry.{Entry}
 use Rattle.bsc_history.specs.declared.looks.Look.{Look}
@@ -22,12 +23,13 @@ use Rattle.bsc_network.specs.Worlds.{Hub, Posted, entries}
 use Rattle.bsc_network.specs.Outboxes.{Frame, at_place, frames_by, frames_after, frames_of, frames}
 use Rattle.bsc_network.proofs.Places.{all-mapped}
 use Rattle.bsc_network_laws.specs.Ends.{message_of}
-use Rattle.bsc_node_identity.specs.Npdus.{is_npdu}
 use Rattle.bsc_network_laws.specs.Carrying.{npdus}
 use Rattle.bsc_network_laws.proofs.ForwardedOnce.{IsForward}
 use Rattle.bsc_network_laws.proofs.Named.{all-messages}
 use Rattle.bsc_node_identity.proofs.Npdus.{out-npdu}
 use Rattle.std.proofs.lemmas.Option.{same_Some as some_same}
+use Rattle.bsc_lemmas.proofs.Numbers.{same_suc}
+use Rattle.bsc_lemmas.proofs.Lists.{got-split}
 
 -- No two of these have one place.
 abbrev pub Different : List Frame → Type 0
@@ -234,15 +236,8 @@ ForwardIn posted p f = (q : Posted) × (slice_get posted p ≡ Some q) × IsForw
 abbrev pub ForwardsApart : List Posted → Type 0
 ForwardsApart posted = (p : ℕ) (f : Frame) (r : ℕ) (g : Frame) → ForwardIn posted p f → ForwardIn posted r g → f.sent_at ≡ g.sent_at → p ≡ r
 
-suc_same : (p r : ℕ) → suc p ≡ suc r → p ≡ r
-suc_same p r h = cc
-
 apart-tail : (p : Posted) (posted : List Posted) → ForwardsApart (p ∷ posted) → ForwardsApart posted
-apart-tail p posted apart i f j g a b same = suc_same i j (apart (suc i) f (suc j) g a b same)
-
-pub got-split : {A : Type 0} (xs : List A) (y : A) (ys : List A) → slice_get (xs ++ y ∷ ys) (length xs) ≡ Some y
-got-split [] y ys = refl
-got-split (x ∷ xs) y ys = got-split xs y ys
+apart-tail p posted apart i f j g a b same = same_suc i j (apart (suc i) f (suc j) g a b same)
 
 -- the forward by which it entered
 pub forward_in : (G : List Entry) (c : ℕ) (posted : List Posted) (f : Frame) (is : IsEntered G c posted f) → ForwardIn posted (length is.before) is.frame

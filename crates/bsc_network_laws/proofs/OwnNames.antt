@@ -45,7 +45,7 @@ use Rattle.bsc_node_identity.specs.Naming.{is_connect, IsConnectOf}
 use Rattle.bsc_network.specs.Worlds.{Hub, Link, Posted, entries}
 use Rattle.bsc_network.specs.Outboxes.{Frame, at_place, frames_by}
 use Rattle.bsc_network_laws.proofs.Moves.{octets_wanted, IsWanted, IsSaid}
-use Rattle.bsc_node_identity.proofs.OwnOctets.{IsJudged}
+use Rattle.bsc_accept.proofs.OwnOctets.{IsJudged}
 use Rattle.std.proofs.lemmas.Option.{same_Some as some_same}
 
 -- ---- verdicts

@@ -1,10 +1,10 @@
 -- What a hub puts of itself is no Encapsulated-NPDU.
 use Rattle.std.proofs.Common.{◌≡◌, ℕ, false, List, Some, ap, sym, subst, ◌∙◌}
+use Rattle.bsc_octets.specs.Functions.{is_npdu}
 use Rattle.bsc_history.specs.declared.limits.About.{About}
 use Rattle.bsc_accept.specs.declared.step.Step.{Step}
 use Rattle.bsc_accept.specs.declared.step.Step.TheVariants.{Ask, Put, PutClose, Up, Close, Nothing}
-use Rattle.bsc_node_identity.specs.Npdus.{is_npdu}
-use Rattle.bsc_node_identity.proofs.OwnOctets.{PutsNone, none-step}
+use Rattle.bsc_accept.proofs.OwnOctets.{PutsNone, none-step}
 use Rattle.bsc_network_laws.proofs.Moves.{octets_wanted, IsWanted}
 use Rattle.std.proofs.lemmas.Option.{same_Some as some_same}
 

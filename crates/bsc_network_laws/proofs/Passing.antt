@@ -1,14 +1,15 @@
 -- After each step, each NPDU in an outbox was passed on to its connection: it is that of a Send of the node that dialled the
 -- sender's link, and meant for a connection that was live then.
-use Rattle.std.proofs.Common.{◌≡◌, ◌<◌, ◌⊎◌, inl, inr, ℕ, ◌==◌, nat_le, Bool, true, false, not, cond, ◌&&◌, ◌||◌, List, [], ◌∷◌, ◌++◌, filter, length, map, Option, Some, None, MatchOption, refl, ap, sym, subst, ◌∙◌, append_assoc}
+use Rattle.std.proofs.Common.{◌≡◌, ◌<◌, ◌⊎◌, inl, inr, ℕ, ◌==◌, nat_le, Bool, true, false, not, cond, ◌&&◌, ◌||◌, List, [], ◌∷◌, ◌++◌, filter, length, map, Option, Some, None, refl, ap, sym, subst, ◌∙◌, append_assoc}
 use Rattle.std.specs.Prelude.{◌^◌, slice_get, ⊤}
 use Rattle.std.specs.Option.{option_map}
 use Rattle.std.specs.List.{AllByRecursion, list_any}
-use Rattle.std.proofs.lemmas.Bool.{and_parts, both_ways, eqb-true, eq-eqb}
+use Rattle.std.proofs.lemmas.Bool.{and_parts, both_ways, eqb-true}
 use Rattle.std.proofs.lemmas.List.Elements.{filter-append}
 use Rattle.bsc_octets.specs.declared.vmac.Vmac.{Vmac}
 use Rattle.bsc_octets.specs.Envelopes.{announces_dest, announces_origin, flags_in}
 use Rattle.bsc_octets.specs.Forwarding.{has_route, out}
+use Rattle.bsc_octets.specs.Functions.{is_npdu}
 use Rattle.bsc_frame.specs.declared.body.Body.TheVariants.{Npdu}
 use Rattle.bsc_history.specs.declared.limits.About.{About}
 use Rattle.bsc_history.specs.declared.call.Call.{Call}
@@ -17,12 +18,11 @@ use Rattle.bsc_history.specs.declared.connection.Connection.{Connection}
 use Rattle.bsc_history.specs.declared.entry.Entry.{Entry}
 use Rattle.bsc_history.specs.declared.looks.Look.{Look}
 use Rattle.bsc_history.specs.Ends.{joined, live, numbered, is_live}
-use Rattle.bsc_history.specs.Laws.{Apart}
 use Rattle.bsc_history.specs.Legality.{Legal}
 use Rattle.bsc_history.specs.Outboxes.{added_by, means, meant, out_of, sent, takes, vmac_in, vmac_of, is_too_long, is_found_full}
-use Rattle.bsc_history.proofs.Lists.{In, In-filter, any_gives, find_says, same_one}
+use Rattle.bsc_history.proofs.Lists.{In, In-filter, any_gives, same_one}
 use Rattle.bsc_history.proofs.Numbers.{live_numbers}
-use Rattle.bsc_history.proofs.Connections.{joined_apart, joined_in}
+use Rattle.bsc_history.proofs.Connections.{found_in, joined_apart, joined_in, numbered_so}
 use Rattle.bsc_checks.specs.Outcomes.{outcome_of}
 use Rattle.bsc_checks.specs.declared.place.Place.TheVariants.{HubPort}
 use Rattle.bsc_accept.specs.Past.{phase, standing}
@@ -46,7 +46,6 @@ use Rattle.bsc_network.specs.Outboxes.{Frame, at_place, frames, frames_by}
 use Rattle.bsc_network.proofs.Frames.{frames-more}
 use Rattle.bsc_network.proofs.Places.{all-mapped, got-changed}
 use Rattle.bsc_network_laws.specs.Ends.{messages}
-use Rattle.bsc_node_identity.specs.Npdus.{is_npdu}
 use Rattle.bsc_network_laws.specs.Carrying.{Sendings, npdus, IsSentBy}
 use Rattle.bsc_network_laws.specs.Naming.{Cast}
 use Rattle.bsc_network_laws.specs.Connecting.{is_conn, HasJoinedBy}
@@ -87,14 +86,6 @@ if_cons P false x xs all = (λ is. cc, all)
 pub all_unfiltered : {A : Type 0} (P : A → Type 0) (q : A → Bool) (xs : List A) → AllByRecursion P (filter q xs) → AllByRecursion (λ x. q x ≡ true → P x) xs
 all_unfiltered P q [] all = tt
 all_unfiltered P q (x ∷ xs) all = (let two = if_cons P (q x) x (filter q xs) all in (two.0, all_unfiltered P q xs two.1))
-
--- the one of a number, where each has its own
-pub numbered_so : (x : Connection) (xs : List Connection) → Apart (λ (c : Connection). c.number) xs → In x xs → numbered x.number xs ≡ Some x
-numbered_so x xs apart m = by (numbered x.number xs) (find_says (λ (y : Connection). y.number == x.number) xs)
-  where
-    by : (o : Option Connection) → MatchOption o ((y : Connection) → In y xs → (y.number == x.number) ≡ false) (λ y. In y xs × ((y.number == x.number) ≡ true)) → o ≡ Some x
-    by None says = absurd (both_ways (x.number == x.number) (says x m) (eq-eqb x.number x.number refl))
-    by (Some y) says = ap Some (same_one (λ (c : Connection). c.number) y x xs apart says.0 m (eqb-true y.number x.number says.1))
 
 -- ---- what was passed on stays so
 
@@ -217,14 +208,6 @@ with_dest S k place m route (dest, npdu, id, to, sends, octets, inr is, small) =
         announced o h =
             let first = and_parts (nat_le 10 (length o) && announces_dest (flags_in o)) (not (announces_origin (flags_in o))) h in
             (and_parts (nat_le 10 (length o)) (announces_dest (flags_in o)) first.0).1
-
--- who is found is among those that were looked through
-pub found_in : (c : ℕ) (xs : List Connection) (x : Connection) → numbered c xs ≡ Some x → In x xs × (x.number ≡ c)
-found_in c xs x is = by (numbered c xs) (find_says (λ (y : Connection). y.number == c) xs) is
-  where
-    by : (o : Option Connection) → MatchOption o ((y : Connection) → In y xs → (y.number == c) ≡ false) (λ y. In y xs × ((y.number == c) ≡ true)) → o ≡ Some x → In x xs × (x.number ≡ c)
-    by None says e = cc
-    by (Some y) says e = subst (λ (z : Connection). In z xs × (z.number ≡ c)) (some_same y x e) (says.0, eqb-true y.number c says.1)
 
 -- Who joined by a link's call, and by which number, is one connection.
 pub joined_by : (h : Hub) (l c : ℕ) (x : Connection) → Legal h.about (history h) → HasJoinedBy h l c → In x (joined (history h)) → x.number ≡ c → x.caller ≡ l

@@ -1,6 +1,7 @@
 -- Which NPDUs nodes have put, each at its link, way and index; and which moves add none.
 use Rattle.std.proofs.Common.{◌≡◌, ◌⊎◌, inl, inr, ℕ, zero, suc, true, false, List, [], Option, Some, None, refl, ap, sym, subst, ◌∙◌}
 use Rattle.std.specs.Prelude.{length, slice_get}
+use Rattle.bsc_octets.specs.Functions.{is_npdu}
 use Rattle.bsc_node.specs.declared.link_name.LinkName.{LinkName}
 use Rattle.bsc_node.specs.Laws.{puts_npdu}
 use Rattle.bsc_network.specs.declared.way.Way.{Way}
@@ -20,7 +21,6 @@ use Rattle.bsc_network.specs.NodeSides.{other_way, hold_of, puts_on, puts_by}
 use Rattle.bsc_network.specs.Dialling.{new_link, dials}
 use Rattle.bsc_network.proofs.Places.{got-changed, got-last_of}
 use Rattle.bsc_network_laws.specs.Ends.{putter}
-use Rattle.bsc_node_identity.specs.Npdus.{is_npdu}
 use Rattle.bsc_network_laws.proofs.Acting.{LetsActs}
 use Rattle.bsc_network_laws.proofs.SideFits.{CarriesNone}
 use Rattle.bsc_network.proofs.Common.{not_both}

@@ -4,6 +4,7 @@ use Rattle.std.specs.Prelude.{◌^◌, IsTrue, if◌then◌else◌, filter_map, 
 use Rattle.std.specs.List.{list_any}
 use Rattle.std.specs.Option.{option_map}
 use Rattle.bsc_octets.specs.declared.vmac.Vmac.{Vmac}
+use Rattle.bsc_octets.specs.Functions.{is_npdu}
 use Rattle.bsc_direct.specs.declared.routes.Route.{Route}
 use Rattle.bsc_direct.specs.declared.routes.Route.TheVariants.{Direct as ByDirect, Hub as ByHub, NoPath as ByNone}
 use Rattle.bsc_direct.specs.Paths.{path}
@@ -29,7 +30,6 @@ use Rattle.bsc_network.specs.Worlds.{World, Node}
 use Rattle.bsc_network.specs.NodeEvents.{brings_about}
 use Rattle.bsc_network.specs.NodeSides.{name_of}
 use Rattle.bsc_network.specs.Arriving.{event_of}
-use Rattle.bsc_node_identity.specs.Npdus.{is_npdu}
 use Rattle.bsc_network_laws.specs.Carrying.{Sendings, IsSentBy}
 use Rattle.bsc_network_laws.proofs.Acting.{Among}
 use Rattle.bsc_network_laws.proofs.Moves.{Comes}

@@ -4,6 +4,7 @@ use Rattle.std.specs.Prelude.{◌+◌, ◌^◌, IsTrue, slice_get, filter, filte
 use Rattle.std.specs.Option.{option_map}
 use Rattle.std.specs.List.{AllByRecursion}
 use Rattle.bsc_octets.specs.declared.vmac.Vmac.{Vmac}
+use Rattle.bsc_octets.specs.Functions.{is_npdu}
 use Rattle.bsc_frame.specs.declared.message.Message.{Message as FrameMessage}
 use Rattle.bsc_frame.specs.declared.body.Body.TheVariants.{Npdu}
 use Rattle.bsc_checks.specs.declared.verdict.Verdict.TheVariants.{Pass}
@@ -41,7 +42,6 @@ use Rattle.bsc_network.specs.Arriving.{event_of}
 use Rattle.bsc_network.specs.Refusals.{is_own}
 use Rattle.bsc_network.proofs.Places.{all-mapped, found-in, get-changed}
 use Rattle.bsc_network_laws.specs.Ends.{receiver}
-use Rattle.bsc_node_identity.specs.Npdus.{is_npdu}
 use Rattle.bsc_node_identity.proofs.Npdus.{passed-npdu}
 use Rattle.bsc_network_laws.specs.Deliveries.{AreApart, Apart}
 use Rattle.bsc_network_laws.proofs.Moves.{IsHeardBy, HasArrived, Comes, Lets}

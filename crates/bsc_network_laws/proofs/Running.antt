@@ -58,6 +58,7 @@ use Rattle.bsc_network_laws.proofs.PutOnce.{ArePutOnce, PutBefore, OnePut, one_o
 use Rattle.bsc_network_laws.proofs.Receipts.{HasReceipts, receipts-same, receipts_stay}
 use Rattle.bsc_network_laws.proofs.ForwardedOnce.{ForwardAt, ForwardsFit, forwards-same, forwards_fit}
 use Rattle.bsc_network_laws.proofs.HubsThere.{HubsThere, hubs_there}
+use Rattle.bsc_network_laws.proofs.AllDelivered.{AllDelivered, all-new, all-same, all_stay}
 use Rattle.bsc_network_laws.proofs.Reached.{reached-at_first, UpLaw}
 use Rattle.bsc_lemmas.proofs.Options.{some_none_any as some_none}
 
@@ -85,6 +86,7 @@ pub record Runs (cast : Cast) (S : Sendings) (T place : ℕ) (w : World) : Type 
   pub receipts : HasReceipts w
   pub forwards : ForwardsFit w
   pub there : HubsThere w
+  pub every : AllDelivered w
   pub from : UpLaw → AreWhole S → AllFrom S w
 
 sent-makes : (cast : Cast) (S : Sendings) (T : ℕ) (w : World) (t : TimedStep) → Runs cast S T w.steps w → T ≤ t.now → t.now < 2 ^ 62 → IsCounted S w.steps t.step → AllSent S (makes w t)
@@ -171,6 +173,11 @@ forwards-done cast S T w t r =
     let begin : ForwardsFit (begun w t) = forwards-same w (begun w t) refl refl r.forwards in
     lets-step_from (Keeps ForwardsFit) t w (forwards_fit (begun w t) t.step r.put_once begin) begin
 
+every-makes : (cast : Cast) (S : Sendings) (T : ℕ) (w : World) (t : TimedStep) → Runs cast S T w.steps w → T ≤ t.now → t.now < 2 ^ 62 → AllDelivered (makes w t)
+every-makes cast S T w t r after below =
+    all-same (done w t) (makes w t) refl refl
+    (kept-step AllDelivered t w.steps (all_stay t.now w.steps t.step) w (knows-begun T w t after below r.timely r.holds r.sides) (all-same w (begun w t) refl refl r.every))
+
 one_step : (cast : Cast) → IsFit cast → (S : Sendings) (T : ℕ) (w : World) (t : TimedStep) → Runs cast S T w.steps w → T ≤ t.now → t.now < 2 ^ 62 → IsCounted S w.steps t.step → Runs cast S t.now (w.steps + 1) (makes w t)
 one_step cast fit S T w t r after below sends = record {
   place_is = ap (λ n. n + 1) (at-done T w t after below r.timely).steps;
@@ -196,6 +203,7 @@ one_step cast fit S T w t r after below sends = record {
   there = hubs_there w t r.there;
   from = from-makes cast fit S T w t r after below sends;
   diallers = inv-same cast (done w t) (makes w t) (keep-others (done w t) (makes w t) refl refl) refl (dialled-done cast fit S T w t r after below);
+  every = every-makes cast S T w t r after below;
 }
 
 -- the step at its place among all steps
@@ -328,6 +336,7 @@ runs added steps course =
       receipts = ([], tt);
       forwards = forwards-new (hubs added) (new_world added) refl;
       there = record { within = λ l j x here leads. absurd (no_link l x here) };
+      every = all-new added;
       from = λ law whole. tt;
       diallers = joined-new (cast_of added) (new_world added) (hubs added);
     }) course.made_all

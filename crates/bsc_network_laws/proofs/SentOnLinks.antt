@@ -4,6 +4,7 @@ use Rattle.std.specs.Prelude.{◌+◌, ◌^◌, filter_map, ⊤}
 use Rattle.std.specs.Option.{option_map}
 use Rattle.std.specs.List.{AllByRecursion}
 use Rattle.bsc_octets.specs.declared.vmac.Vmac.{Vmac}
+use Rattle.bsc_octets.specs.Functions.{is_npdu}
 use Rattle.bsc_history.specs.declared.call.Call.TheVariants.{Connect}
 use Rattle.bsc_node.specs.declared.link_name.LinkName.{LinkName}
 use Rattle.bsc_node.specs.declared.node_event.NodeEvent.{NodeEvent}
@@ -33,7 +34,6 @@ use Rattle.bsc_network.specs.Dialling.{new_link}
 use Rattle.bsc_network.specs.NodeEvents.{brings_about, hears}
 use Rattle.bsc_network.proofs.Places.{all-changed, all-changed_here, all-found, all-reversed}
 use Rattle.bsc_network_laws.specs.Ends.{receiver, message_of, messages}
-use Rattle.bsc_node_identity.specs.Npdus.{is_npdu}
 use Rattle.bsc_network_laws.specs.Carrying.{Sendings, npdus, IsSentBy}
 use Rattle.bsc_network_laws.proofs.Moves.{IsHeardBy, IsSide, Comes, Each}
 use Rattle.bsc_network_laws.proofs.Acting.{Among, EachAct}

@@ -5,6 +5,7 @@ use Rattle.std.proofs.lemmas.List.{length-append}
 use Rattle.std.proofs.lemmas.List.Elements.{filter-append, filter_map-append}
 use Rattle.std.proofs.lemmas.Option.{slice_get_within}
 use Rattle.bsc_octets.specs.declared.identity.Identity.{Identity}
+use Rattle.bsc_octets.specs.Functions.{is_npdu}
 use Rattle.bsc_frame.specs.declared.body.Body.{Body}
 use Rattle.bsc_frame.specs.declared.body.Body.TheVariants.{DisconnectRequest, HeartbeatRequest}
 use Rattle.bsc_checks.specs.declared.verdict.Verdict.{Verdict}
@@ -24,7 +25,6 @@ use Rattle.bsc_network.specs.Traffic.{Traffic, and_then}
 use Rattle.bsc_network.specs.Worlds.{Posted, Hub, Link, entries}
 use Rattle.bsc_network.specs.Outboxes.{Frame, frames, frames_by}
 use Rattle.bsc_network_laws.specs.Ends.{message_of, messages}
-use Rattle.bsc_node_identity.specs.Npdus.{is_npdu}
 use Rattle.bsc_network_laws.specs.Carrying.{npdus, taken_of}
 use Rattle.bsc_network.proofs.Frames.{frames-more, take-more, take-next}
 use Rattle.bsc_lemmas.proofs.Booleans.{or_false}

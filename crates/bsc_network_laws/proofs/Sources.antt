@@ -3,6 +3,7 @@ use Rattle.std.proofs.Common.{◌≡◌, ◌<◌, ◌⊎◌, inl, inr, ℕ, true
 use Rattle.std.specs.Prelude.{◌^◌, IsTrue, ⊤}
 use Rattle.std.specs.List.{AllByRecursion}
 use Rattle.bsc_octets.specs.declared.vmac.Vmac.{Vmac}
+use Rattle.bsc_octets.specs.Forwarding.{out}
 use Rattle.bsc_frame.specs.declared.message.Message.{Message}
 use Rattle.bsc_frame.specs.declared.body.Body.TheVariants.{Npdu}
 use Rattle.bsc_history.specs.declared.connection.Connection.{Connection}
@@ -22,6 +23,7 @@ use Rattle.bsc_node.specs.Receiving.{sender}
 use Rattle.bsc_node_identity.proofs.Timely.{Timely}
 use Rattle.bsc_network.specs.declared.world_step.WorldStep.{WorldStep}
 use Rattle.bsc_network.specs.declared.world_delivery.WorldDelivery.{WorldDelivery}
+use Rattle.bsc_network.specs.declared.way.Way.TheVariants.{Down}
 use Rattle.bsc_network.specs.declared.target.Target.{Target}
 use Rattle.bsc_network.specs.declared.target.Target.TheVariants.{Hub as ToHub, Node as ToNode}
 use Rattle.bsc_network.specs.declared.arrival.Arrival.{Arrival}
@@ -33,9 +35,9 @@ use Rattle.bsc_network.specs.Changes.{with_found}
 use Rattle.bsc_network.specs.NodeSides.{hold_of, puts_on, puts_by}
 use Rattle.bsc_network.specs.NodeEvents.{hears}
 use Rattle.bsc_network.proofs.Places.{all-mapped}
-use Rattle.bsc_network_laws.specs.Ends.{putter}
+use Rattle.bsc_network_laws.specs.Ends.{messages, putter}
 use Rattle.bsc_network_laws.specs.Carrying.{Sendings}
-use Rattle.bsc_network_laws.specs.Deliveries.{IsDialledBy, CameByHub, CameDirectly}
+use Rattle.bsc_network_laws.specs.Deliveries.{ComesDownBy, IsDialledBy, CameByHub, CameDirectly}
 use Rattle.bsc_network_laws.specs.Naming.{Cast}
 use Rattle.bsc_network_laws.proofs.Moves.{Comes}
 use Rattle.bsc_network_laws.proofs.Acting.{Among, goes_on_in, EachAct, LetsActs}
@@ -47,8 +49,8 @@ use Rattle.bsc_network_laws.proofs.Lasting.{Lasts, lasts-none, lasts-then, lasts
 use Rattle.bsc_network_laws.proofs.Lasting as Lasting
 use Rattle.bsc_network_laws.proofs.Brought.{at_once, by-each}
 use Rattle.bsc_network_laws.proofs.OtherEnds.{CameBy, came_by, acts-after, KnowsEnds}
-use Rattle.bsc_network_laws.proofs.DirectLinks.{AllDirect}
-use Rattle.bsc_network_laws.proofs.CameDirectly.{came_directly, came_directly-lasts}
+use Rattle.bsc_network_laws.proofs.DirectLinks.{AllDirect, among-longer}
+use Rattle.bsc_network_laws.proofs.CameDirectly.{came_directly, came_directly-lasts, traffic-grows}
 use Rattle.bsc_network_laws.proofs.Reached.{UpLaw}
 use Rattle.bsc_lemmas.proofs.Lists.{all-at, all-push as all-one_more}
 use Rattle.std.proofs.lemmas.Option.{same_Some as some_same}
@@ -61,6 +63,17 @@ IsFrom S w d = (from : ℕ) × (dest : Vmac) × S d.sent_at from dest d.delivere
 
 dialled-lasts : (u v : World) (c : Connection) (k : ℕ) → Lasts u v → IsDialledBy u c k → IsDialledBy v c k
 dialled-lasts u v c k g (link, at, from) = let y = g.links.at c.caller link at in (y.0, y.1, y.2.from ∙ from)
+
+down-lasts : (u v : World) (number : ℕ) (c : Connection) (k : ℕ) (octets : List ℕ) (place : ℕ) → Lasts u v → ComesDownBy u number c k octets place → ComesDownBy v number c k octets place
+down-lasts u v number c k octets place g x =
+    let y = g.links.at c.caller x.link x.found in
+    record {
+      link = y.0;
+      found = y.1;
+      leads = y.2.to ∙ x.leads;
+      dialled = y.2.from ∙ x.dialled;
+      stands = among-longer (messages x.link.down) (messages y.0.down) (record { octets = octets; sent_at = place }) (traffic-grows Down x.link y.0 y.2) x.stands;
+    }
 
 came_by_hub-lasts : (u v : World) (from : ℕ) (dest : Vmac) (d : WorldDelivery) → Lasts u v → CameByHub u from dest d → CameByHub v from dest d
 came_by_hub-lasts u v from dest d g c =
@@ -76,12 +89,15 @@ came_by_hub-lasts u v from dest d g c =
       from = c.from;
       to = c.to;
       frame = c.frame;
+      id = c.id;
+      small = c.small;
+      carried = c.carried;
       call = c.call;
       place = c.place;
       sender_live = c.sender_live;
       receiver_live = c.receiver_live;
       sender_link = dialled-lasts u v c.from from g c.sender_link;
-      receiver_link = dialled-lasts u v c.to d.node g c.receiver_link;
+      receiver_link = down-lasts u v c.number c.to d.node (out c.frame c.from.who.vmac) d.sent_at g c.receiver_link;
       address = c.address;
       destination = c.destination;
     }

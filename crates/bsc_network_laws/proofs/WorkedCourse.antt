@@ -13,8 +13,7 @@ use Rattle.bsc_network.specs.declared.world_step.WorldStep.{WorldStep}
 use Rattle.bsc_network.specs.declared.world_step.WorldStep.TheVariants.{Node as OfNode}
 use Rattle.bsc_network.specs.Settings.{Added}
 use Rattle.bsc_network.specs.Networks.{deliveries}
-use Rattle.bsc_network.specs.Courses.{HasContent, MayMakeAll, IsCourse}
-use Rattle.bsc_network_laws.specs.Deliveries.{IsWhole, HasAddress}
+use Rattle.bsc_network.specs.Courses.{HasContent, IsWhole, MayMakeAll, IsCourse}
 use Rattle.bsc_network.proofs.OnLiterals.{world_on_literals}
 use Rattle.bsc_network.proofs.Scenes.{peer, primary, a, b, c, b_direct, address, at, joins, send, up, down, take, got, got_by_all}
 use Rattle.bsc_lemmas.proofs.Booleans.{and_left, and_right, not_true as not_so}
@@ -59,10 +58,6 @@ content : (step : WorldStep) → has_content step ≡ true → HasContent step
 content (OfNode k (Send dest npdu)) h = (ltb-true 0 (length npdu) (and_left (nat_lt 0 (length npdu)) _ h), not_so (same_vmac dest zero_vmac) (and_right (nat_lt 0 (length npdu)) _ h))
 content step h = tt
 
-may_make : (steps : List WorldStep) → list_all has_content steps ≡ true → MayMakeAll 0 (at 0 steps)
-may_make [] h = tt
-may_make (s ∷ steps) h = (record { later = omega arith; in_range = omega arith; content = content s (and_left (has_content s) (list_all has_content steps) h) }, may_make steps (and_right (has_content s) (list_all has_content steps) h))
-
 abbrev has_address : WorldStep → Bool
 has_address (OfNode k (Send dest npdu)) = length dest.0 == 6
 has_address step = true
@@ -71,13 +66,17 @@ whole : (step : WorldStep) → has_address step ≡ true → IsWhole step
 whole (OfNode k (Send dest npdu)) h = eqb-true (length dest.0) 6 h
 whole step h = tt
 
-all_whole : (steps : List WorldStep) → list_all has_address steps ≡ true → AllByRecursion HasAddress (at 0 steps)
-all_whole [] h = tt
-all_whole (s ∷ steps) h = (whole s (and_left (has_address s) (list_all has_address steps) h), all_whole steps (and_right (has_address s) (list_all has_address steps) h))
-
--- What is sent goes to addresses of six octets.
-goes_to_addresses : AllByRecursion HasAddress (at 0 course)
-goes_to_addresses = all_whole course refl
+may_make : (steps : List WorldStep) → list_all has_content steps ≡ true → list_all has_address steps ≡ true → MayMakeAll 0 (at 0 steps)
+may_make [] h g = tt
+may_make (s ∷ steps) h g = (
+  record {
+    later = omega arith;
+    in_range = omega arith;
+    content = content s (and_left (has_content s) (list_all has_content steps) h);
+    whole = whole s (and_left (has_address s) (list_all has_address steps) g);
+  },
+  may_make steps (and_right (has_content s) (list_all has_content steps) h) (and_right (has_address s) (list_all has_address steps) g),
+)
 
 hub_fits : IsHub (record { hub = peer 0xF0 0xF0; limits = record { rows = 256; outbox = 64; calls = 1099511627776; callers = 4096 } })
 hub_fits = record { some_rows = omega arith; few_rows = omega arith; some_room = omega arith; little_room = omega arith; some_calls = omega arith; few_calls = omega arith; some_callers = omega arith; few_callers = omega arith }
@@ -97,5 +96,5 @@ is_course = record {
       ),
     ),
   );
-  made_all = may_make course refl;
+  made_all = may_make course refl refl;
 }

@@ -2,6 +2,7 @@
 use Rattle.std.proofs.Common.{◌≡◌, inr, Bool, true, false, cond, [], ◌∷◌, ◌++◌, Some, refl, ap}
 use Rattle.std.specs.Prelude.{List, find, slice_get, unwrap_or}
 use Rattle.std.specs.List.{list_any}
+use Rattle.bsc_octets.specs.Functions.{is_npdu}
 use Rattle.bsc_direct.specs.declared.call.SlotCall.TheVariants.{Up as SlotUp}
 use Rattle.bsc_node.specs.declared.link_name.LinkName.TheVariants.{Direct}
 use Rattle.bsc_node.specs.declared.node_event.NodeEvent.{NodeEvent}
@@ -22,7 +23,6 @@ use Rattle.bsc_network.specs.Outboxes.{Frame}
 use Rattle.bsc_network.specs.Networks.{world}
 use Rattle.bsc_network.proofs.OnLiterals.{world_on_literals}
 use Rattle.bsc_network.proofs.Scenes.{peer, primary, a, b_direct, address, at, joins, send, up, down, take, got}
-use Rattle.bsc_node_identity.specs.Npdus.{is_npdu}
 use Rattle.bsc_network_laws.specs.Ends.{messages}
 use Rattle.bsc_network_laws.specs.Deliveries.{IsFromItsSend}
 use Rattle.std.proofs.lemmas.Option.{same_Some as some_same}

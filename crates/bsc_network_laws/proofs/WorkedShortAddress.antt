@@ -1,4 +1,5 @@
--- Why a destination has to have six octets: what is sent to an address of none has the octets of another message, and is delivered so.
+-- Why a step may be made only where what is sent goes to an address of six octets: what is sent to one of none has the octets of another
+-- message, and would be delivered so.
 use Rattle.std.proofs.Common.{◌≡◌, List, [], ◌∷◌, ◌++◌, Some, refl}
 use Rattle.std.specs.Prelude.{slice_get}
 use Rattle.bsc_octets.specs.declared.vmac.Vmac.{Vmac}

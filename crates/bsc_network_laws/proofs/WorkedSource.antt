@@ -74,12 +74,15 @@ has_source = record {
     from = record { number = 1; caller = 0; who = peer 0x0A 0xAA };
     to = record { number = 2; caller = 1; who = peer 0x0B 0xBB };
     frame = frame_in forward.entry.call;
+    id = 2;
+    small = omega arith;
+    carried = refl;
     call = refl;
     place = refl;
     sender_live = refl;
     receiver_live = refl;
     sender_link = (the_link 0, refl, refl);
-    receiver_link = (the_link 1, refl, refl);
+    receiver_link = record { link = the_link 1; found = refl; leads = refl; dialled = refl; stands = (1, refl) };
     address = refl;
     destination = refl;
   });

@@ -1,9 +1,9 @@
 -- Words for what NPDUs are carried, and where.
 use Rattle.std.specs.Prelude.{◌≡◌, ◌<◌, ◌^◌, ◌⊎◌, ℕ, List, [], filter, take, Option, Some, None}
 use Rattle.bsc_octets.specs.declared.vmac.Vmac.{Vmac}
+use Rattle.bsc_octets.specs.Functions.{is_npdu}
 use Rattle.bsc_frame.specs.declared.body.Body.TheVariants.{Npdu}
 use Rattle.bsc_node.specs.Messages.{message_octets}
-use Rattle.bsc_node_identity.specs.Npdus.{is_npdu}
 use Rattle.bsc_network.specs.Worlds.{Hub}
 use Rattle.bsc_network.specs.Outboxes.{Frame, frames}
 

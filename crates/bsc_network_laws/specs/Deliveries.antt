@@ -1,8 +1,10 @@
 -- What holds of every network: where each NPDU that is delivered came from.
-use Rattle.std.specs.Prelude.{◌≡◌, ◌≢◌, ◌⊎◌, ℕ, false, List, [], ◌∷◌, ◌++◌, length, map, slice_get, Some, ⊤}
+use Rattle.std.specs.Prelude.{◌≡◌, ◌≢◌, ◌<◌, ◌^◌, ◌⊎◌, ℕ, false, List, [], ◌∷◌, ◌++◌, map, slice_get, Some, ⊤}
 use Rattle.std.specs.List.{AllByRecursion}
 use Rattle.bsc_octets.specs.declared.identity.Identity.{Identity}
 use Rattle.bsc_octets.specs.declared.vmac.Vmac.{Vmac}
+use Rattle.bsc_octets.specs.Forwarding.{out}
+use Rattle.bsc_frame.specs.declared.body.Body.TheVariants.{Npdu}
 use Rattle.bsc_history.specs.declared.call.Call.TheVariants.{Forward}
 use Rattle.bsc_history.specs.declared.connection.Connection.{Connection}
 use Rattle.bsc_history.specs.Ends.{live, numbered}
@@ -10,12 +12,12 @@ use Rattle.bsc_node.specs.declared.link_name.LinkName.TheVariants.{Direct}
 use Rattle.bsc_node.specs.declared.node_event.NodeEvent.TheVariants.{Came, Send}
 use Rattle.bsc_node.specs.Links.{peer}
 use Rattle.bsc_node.specs.Logs.{Line, came, Log}
+use Rattle.bsc_node.specs.Messages.{message_octets}
 use Rattle.bsc_node.specs.Ways.{established_peer}
 use Rattle.bsc_node_identity.specs.Npdus.{IsFor}
 use Rattle.bsc_node_identity.specs.There.{CameUpWith}
 use Rattle.bsc_network.specs.declared.way.Way.{Way}
-use Rattle.bsc_network.specs.declared.target.Target.TheVariants.{Node as ToNode}
-use Rattle.bsc_network.specs.declared.world_step.WorldStep.{WorldStep}
+use Rattle.bsc_network.specs.declared.target.Target.TheVariants.{Hub as ToHub, Node as ToNode}
 use Rattle.bsc_network.specs.declared.world_step.WorldStep.TheVariants.{Node as OfNode}
 use Rattle.bsc_network.specs.declared.timed_step.TimedStep.{TimedStep}
 use Rattle.bsc_network.specs.declared.world_delivery.WorldDelivery.{WorldDelivery}
@@ -42,8 +44,19 @@ IsAmong xs x = (place : ℕ) × (slice_get xs place ≡ Some x)
 abbrev pub IsDialledBy : World → Connection → ℕ → Type 0
 IsDialledBy w c k = (link : Link) × (link_at w c.caller ≡ Some link) × (link.from ≡ k)
 
--- It was passed on by a hub. Where the hub entered that, the sender's node was connected under the address that is delivered,
--- and the receiver's node was connected too; the destination was the address of the receiver's connection, or the broadcast.
+-- The link of the connection leads to this hub and was dialled by this node, and on its way down this message stands, with this
+-- place.
+pub record ComesDownBy (w : World) (number : ℕ) (c : Connection) (k : ℕ) (octets : List ℕ) (place : ℕ) : Type 0 where
+  pub link : Link
+  pub found : link_at w c.caller ≡ Some link
+  pub leads : link.to ≡ ToHub number
+  pub dialled : link.from ≡ k
+  pub stands : IsAmong (messages link.down) (record { octets = octets; sent_at = place })
+
+-- It was passed on by a hub. What this was given to forward is the NPDU that is delivered, to the destination of the Send. Where the
+-- hub entered that, the sender's node was connected under the address that is delivered, and the receiver's node was connected too;
+-- the destination was the address of the receiver's connection, or the broadcast. What was passed on of it came down the link by
+-- which the receiver's connection joined, which the receiver's node dialled.
 pub record CameByHub (w : World) (sender : ℕ) (dest : Vmac) (d : WorldDelivery) : Type 0 where
   pub number : ℕ
   pub at_hub : Hub
@@ -55,12 +68,15 @@ pub record CameByHub (w : World) (sender : ℕ) (dest : Vmac) (d : WorldDelivery
   pub from : Connection
   pub to : Connection
   pub frame : List ℕ
+  pub id : ℕ
+  pub small : id < 2 ^ 16
+  pub carried : frame ≡ message_octets id (Some dest) (Npdu d.delivered.npdu)
   pub call : forward.entry.call ≡ Forward from.number frame
   pub place : forward.sent_at ≡ d.sent_at
   pub sender_live : numbered from.number (live (entries before)) ≡ Some from
   pub receiver_live : numbered to.number (live (entries before)) ≡ Some to
   pub sender_link : IsDialledBy w from sender
-  pub receiver_link : IsDialledBy w to d.node
+  pub receiver_link : ComesDownBy w number to d.node (out frame from.who.vmac) d.sent_at
   pub address : from.who.vmac ≡ d.delivered.from
   pub destination : IsFor d.delivered.broadcast dest to.who.vmac
 
@@ -133,21 +149,16 @@ Apart (d ∷ ds) = AllByRecursion (AreApart d) ds × Apart ds
 abbrev pub NoneIsDeliveredTwice : Type 0
 NoneIsDeliveredTwice = (added : List Added) (steps : List TimedStep) → IsCourse added steps → Apart (deliveries added steps)
 
--- What is sent goes to an address of six octets.
-abbrev pub IsWhole : WorldStep → Type 0
-IsWhole (OfNode k (Send dest npdu)) = length dest.0 ≡ 6
-IsWhole step = ⊤
-
-abbrev pub HasAddress : TimedStep → Type 0
-HasAddress t = IsWhole t.step
-
 -- Each delivery comes from the Send at its place, and none is of the Send and to the node of another.
 pub record DeliversWhatWasSent (added : List Added) (steps : List TimedStep) : Type 0 where
   pub each : AllByRecursion (IsFromItsSend steps (world added steps)) (deliveries added steps)
   pub once : Apart (deliveries added steps)
 
--- So it is in every network, whatever steps are made in which what is sent goes to addresses of six octets.
+-- So it is in every network, whatever steps are made.
 abbrev pub NetworksDeliverWhatWasSent : Type 0
-NetworksDeliverWhatWasSent =
-    (added : List Added) (steps : List TimedStep) → IsCourse added steps → AllByRecursion HasAddress steps
-    → DeliversWhatWasSent added steps
+NetworksDeliverWhatWasSent = (added : List Added) (steps : List TimedStep) → IsCourse added steps → DeliversWhatWasSent added steps
+
+-- A step after these makes the network deliver this more, and it delivers what was sent.
+pub record AddsWhatWasSent (added : List Added) (steps : List TimedStep) (t : TimedStep) (more : List WorldDelivery) : Type 0 where
+  pub delivered : deliveries added (steps ++ t ∷ []) ≡ deliveries added steps ++ more
+  pub sent : DeliversWhatWasSent added (steps ++ t ∷ [])

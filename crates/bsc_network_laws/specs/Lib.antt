@@ -6,3 +6,4 @@ pub mod Naming
 pub mod Connecting
 pub mod Passing
 pub mod Peers
+pub mod Delivering

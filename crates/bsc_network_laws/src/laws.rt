@@ -1,6 +1,7 @@
 //! Laws of whole networks, each carried by a function that does nothing.
 ghost use Rattle.bsc_network_laws.specs.Deliveries.{NoneIsDeliveredTwice, NetworksDeliverWhatWasSent};
 ghost use Rattle.bsc_network_laws.specs.Carried.{TakenComesDown, PutsWhatWasSent};
+ghost use Rattle.bsc_network_laws.specs.Delivering.{DeliveriesAreAll};
 ghost use Rattle.bsc_network_laws.specs.Naming.{NamesAreRight};
 ghost use Rattle.bsc_network_laws.specs.Connecting.{ConnectionsAreOfDiallers, ConnectionsJoinedByTheirLinks, ConnectionsJoinByLinks, HistoriesAreLegal};
 ghost use Rattle.bsc_network_laws.specs.Passing.{OutboxesHaveWhatWasSent, WhatComesDownWasSent};
@@ -58,12 +59,17 @@ pub fn peers_are_there()
     ensures { PeersAreThere }
 {}
 
+/// Of each node the deliveries are all that it has delivered by its log, in order, each once, and no more.
+pub fn deliveries_are_all()
+    ensures { DeliveriesAreAll }
+{}
+
 /// No two deliveries are of one Send and to one node.
 pub fn none_is_delivered_twice()
     ensures { NoneIsDeliveredTwice }
 {}
 
-/// Where what is sent goes to addresses of six octets, a network delivers what was sent. Each delivery comes from the Send at its
+/// A network delivers what was sent. Each delivery comes from the Send at its
 /// place: its node sent that very NPDU, and was connected to a hub under the address that is delivered when the hub passed it
 /// on; or its slot was established with the receiver when it sent, and the receiver's slot at the same link had come up with it
 /// when that heard the message. No two deliveries are of one Send and to one node.

@@ -1,7 +1,6 @@
 -- The hubs, nodes and steps of a script are a course, and deliver what was sent.
 use Rattle.std.proofs.Common.{◌≡◌, ◌≤◌, ℕ, ◌+◌, Bool, true, false, not, ◌&&◌, nat_eq, nat_lt, nat_le, List, [], ◌∷◌, ◌++◌, length, Option, Some, None, IfSome, refl, sym, subst, arith}
 use Rattle.std.specs.Prelude.{is_some}
-use Rattle.std.specs.List.{AllByRecursion}
 use Rattle.std.proofs.lemmas.Bool.{and_parts, leb-true, ltb-true}
 use Rattle.bsc_octets.specs.declared.bounds.TheConstants.{LEAST_BVLC}
 use Rattle.bsc_octets.specs.declared.identity.Identity.{Identity}
@@ -21,8 +20,7 @@ use Rattle.bsc_network.specs.Settings.{Added, hub, node, and_hub, and_node, hubs
 use Rattle.bsc_network.specs.Worlds.{World}
 use Rattle.bsc_network.specs.Refusals.{refusal}
 use Rattle.bsc_network.specs.Networks.{dialled_at, delivered_at, world}
-use Rattle.bsc_network.specs.Courses.{HasContent, IsCourse, MayAdd, end_time}
-use Rattle.bsc_network_laws.specs.Deliveries.{HasAddress, IsWhole}
+use Rattle.bsc_network.specs.Courses.{HasContent, IsCourse, IsWhole, MayAdd, end_time}
 use Rattle.bsc_network_laws.proofs.Delivered.{networks_deliver_what_was_sent}
 use Rattle.bsc_network_script.specs.declared.line.Line.{Line}
 use Rattle.bsc_network_script.specs.declared.line.Line.TheVariants.{Nothing, Hub, Node, At, Step}
@@ -35,10 +33,9 @@ use Rattle.bsc_network_script_laws.proofs.Stepping.{piece_said, state_after-more
 use Rattle.bsc_lemmas.proofs.Booleans.{not_true as not_so}
 use Rattle.bsc_network.proofs.Common.{all_more, end_more, may_add_one}
 
--- The hubs, nodes and steps are a course, what is sent goes to addresses, and the clock isn't behind the steps.
+-- The hubs, nodes and steps are a course, and the clock isn't behind the steps.
 pub record IsLawful (s : State) : Type 0 where
   pub course : IsCourse s.added s.steps
-  pub addresses : AllByRecursion HasAddress s.steps
   pub clock : end_time 0 s.steps ≤ s.clock
   pub soon : s.clock ≤ latest
 
@@ -81,7 +78,6 @@ node_may s own direct m e =
 lawful_added : (s : State) (one : Added) → IsLawful s → MayAdd s.added one → IsLawful (record s { added = s.added ++ one ∷ [] })
 lawful_added s one h may = record {
   course = record { added_all = may_add_one s.added one h.course.added_all may; made_all = h.course.made_all };
-  addresses = h.addresses;
   clock = h.clock;
   soon = h.soon;
 }
@@ -94,13 +90,9 @@ lawful_set s ms h e =
     let q = and_parts (nat_le 1 (length (hubs s.added))) (nat_le s.clock ms) p.0 in
     let later = leb-true s.clock ms q.1 in
     let before = h.clock in
-    record { course = h.course; addresses = h.addresses; clock = omega (arith, later, before); soon = leb-true ms latest p.1 }
+    record { course = h.course; clock = omega (arith, later, before); soon = leb-true ms latest p.1 }
 
 -- ---- steps
-
-addresses_more : (steps : List TimedStep) (t : TimedStep) → AllByRecursion HasAddress steps → IsWhole t.step → AllByRecursion HasAddress (steps ++ t ∷ [])
-addresses_more [] t all h = (h, tt)
-addresses_more (x ∷ steps) t all h = (all.0, addresses_more steps t all.1 h)
 
 content : (step : WorldStep) → has_content step ≡ true → HasContent step
 content (OfNode k (Send dest npdu)) e =
@@ -116,9 +108,8 @@ lawful_step s step h whole e =
     record {
       course = record {
         added_all = h.course.added_all;
-        made_all = all_more 0 s.steps (at_clock s step) h.course.made_all (record { later = h.clock; in_range = omega (arith, soon); content = content step e });
+        made_all = all_more 0 s.steps (at_clock s step) h.course.made_all (record { later = h.clock; in_range = omega (arith, soon); content = content step e; whole = whole });
       };
-      addresses = addresses_more s.steps (at_clock s step) h.addresses whole;
       clock = omega (arith, end);
       soon = h.soon;
     }
@@ -160,9 +151,9 @@ lawful_after (piece ∷ pieces) s before h = by (λ u b. lawful_after pieces u b
         (next out.state (before + length piece) (lawful_said s (line_of (line_in piece)) out h (line_said (line_in piece)) (piece_said s before piece out is)))
 
 lawful_first : IsLawful nothing_yet
-lawful_first = record { course = record { added_all = tt; made_all = tt }; addresses = tt; clock = omega arith; soon = omega arith }
+lawful_first = record { course = record { added_all = tt; made_all = tt }; clock = omega arith; soon = omega arith }
 
 pub delivers_its_sends : (o : List ℕ) → DeliversItsSends o
 delivers_its_sends o =
     let h = lawful_after (pieces_of o) nothing_yet 0 lawful_first in
-    record { course = h.course; sent = networks_deliver_what_was_sent (state_of o).added (state_of o).steps h.course h.addresses }
+    record { course = h.course; sent = networks_deliver_what_was_sent (state_of o).added (state_of o).steps h.course }

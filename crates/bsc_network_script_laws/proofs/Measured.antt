@@ -21,7 +21,7 @@ use Rattle.bsc_node.specs.declared.node_event.NodeEvent.TheVariants.{Start, Tick
 use Rattle.bsc_network.specs.declared.way.Way.TheVariants.{Up, Down}
 use Rattle.bsc_network.specs.declared.world_step.WorldStep.{WorldStep}
 use Rattle.bsc_network.specs.declared.world_step.WorldStep.TheVariants.{Node as OfNode, Arrive, Lose, Take, Stop}
-use Rattle.bsc_network_laws.specs.Deliveries.{IsWhole}
+use Rattle.bsc_network.specs.Courses.{IsWhole}
 use Rattle.bsc_network_script.specs.declared.line.Line.{Line}
 use Rattle.bsc_network_script.specs.declared.line.Line.TheVariants.{Nothing, Hub, Node, At, Step}
 use Rattle.bsc_network_script.specs.Lines.{at_line, bare_event_of, comes_to, direct_of_words, event_of, hub_line, index_of, line_of, line_of_words, node_line, node_of, node_step, only_index, only_vmac, other_event, send_event, send_to, step_of}

@@ -1,15 +1,13 @@
 -- What a script comes to, in words of its network and not of lines.
 use Rattle.std.specs.Prelude.{◌≡◌, ℕ, ◌+◌, List, [], ◌∷◌, ◌++◌, length, Some, None}
-use Rattle.std.specs.List.{AllByRecursion}
 use Rattle.bsc_text.specs.Lines.{pieces_of}
 use Rattle.bsc_player.specs.Playing.{piece_after}
 use Rattle.bsc_network.specs.declared.timed_step.TimedStep.{TimedStep}
 use Rattle.bsc_network.specs.declared.world_delivery.WorldDelivery.{WorldDelivery}
-use Rattle.bsc_network.specs.Settings.{Added}
 use Rattle.bsc_network.specs.Worlds.{World, new_world}
 use Rattle.bsc_network.specs.Networks.{makes, dialled_at, delivered_at, deliveries}
 use Rattle.bsc_network.specs.Courses.{IsCourse}
-use Rattle.bsc_network_laws.specs.Deliveries.{HasAddress, DeliversWhatWasSent}
+use Rattle.bsc_network_laws.specs.Deliveries.{DeliversWhatWasSent}
 use Rattle.bsc_network_script.specs.Written.{step_text}
 use Rattle.bsc_network_script.specs.Scripts.{State, nothing_yet, simulation, simulate_of}
 
@@ -66,11 +64,3 @@ pub record TellsWhatWasSent (o text : List ℕ) : Type 0 where
   pub front : (simulate_of read).text ≡ text ++ more
   pub steps : IsOfItsSteps read
   pub sent : DeliversItsSends read
-
--- ---- a step
-
--- A step after these makes the network deliver this more; and where what is sent goes to addresses of six octets, it delivers what
--- was sent.
-pub record AddsWhatWasSent (added : List Added) (steps : List TimedStep) (t : TimedStep) (more : List WorldDelivery) : Type 0 where
-  pub delivered : deliveries added (steps ++ t ∷ []) ≡ deliveries added steps ++ more
-  pub sent : AllByRecursion HasAddress (steps ++ t ∷ []) → DeliversWhatWasSent added (steps ++ t ∷ [])

@@ -7,12 +7,10 @@
 #![tactic(auto)]
 
 mod carrying;
-mod laws;
 mod looking;
 mod simulating;
 mod simulation;
 mod texts;
 
 pub use bsc_player::PlayEnd;
-pub use laws::a_step_delivers_what_was_sent;
 pub use simulating::simulate;

@@ -18,8 +18,9 @@ use Rattle.bsc_network.specs.Settings.{Added, hub, node, hubs, nodes, nodes_afte
 use Rattle.bsc_network.specs.Worlds.{World, Hub, Node, history, new_hub, new_node, new_world}
 use Rattle.bsc_world.specs.Kept.{IsHubKept, IsNodeKept, IsCalm}
 use Rattle.bsc_world.specs.Standing.{WorldStands, IsHubAt, IsNodeAt}
-use Rattle.bsc_network.proofs.Places.{got-last, got-last_of, got-longer}
+use Rattle.bsc_network.proofs.Places.{got-last, got-last_of}
 use Rattle.bsc_network.proofs.Common.{may_add_one}
+use Rattle.bsc_lemmas.proofs.Lists.{got-left}
 
 -- ---- what was added
 
@@ -113,7 +114,7 @@ added_hub t u added who limits kept f made clock hubs_so nodes_so links_so few n
         record {
           kept = b.kept;
           marks = b.marks;
-          there = ap (λ xs. slice_get xs j) hubs_so ∙ got-longer t.hubs.items (kept ∷ []) j b.kept b.there;
+          there = ap (λ xs. slice_get xs j) hubs_so ∙ got-left t.hubs.items (kept ∷ []) j b.kept b.there;
           hub = b.hub;
           sides = λ l link k at to got. absurd (nothing_there l link at);
           joined = λ l c own. (let q = b.joined l c own in record { link = q.link; there = q.there; to = q.to; conn = q.conn; lasts = q.lasts });
@@ -176,7 +177,7 @@ added_node t u added own direct kept f made clock hubs_so nodes_so links_so some
     each : (m : Made) → IsNodeKept (new_node m) kept → (k : ℕ) (n : Node) → (slice_get (new_world added).nodes k ≡ Some n) ⊎ ((k ≡ length (new_world added).nodes) × (n ≡ new_node m)) → IsNodeAt u w k n
     each m kept_is k n (inl old) =
         (let b = f.kept.nodes k n old in
-        record { kept = b.kept; there = ap (λ xs. slice_get xs k) nodes_so ∙ got-longer t.nodes.items (kept ∷ []) k b.kept b.there; node = b.node; calm = b.calm })
+        record { kept = b.kept; there = ap (λ xs. slice_get xs k) nodes_so ∙ got-left t.nodes.items (kept ∷ []) k b.kept b.there; node = b.node; calm = b.calm })
     each m kept_is k n (inr new) =
         let number : length t.nodes.items ≡ k = f.kept.node_count ∙ sym new.0 in
         record {

@@ -31,3 +31,4 @@ pub mod LooksMet
 pub mod NextFrames
 pub mod TakeCalls
 pub mod Common
+pub mod Delivering

@@ -13,3 +13,4 @@ pub mod Coming
 pub mod Fronts
 pub mod Stepping
 pub mod Fresh
+pub mod Delivering

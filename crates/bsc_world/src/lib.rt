@@ -27,6 +27,7 @@ mod settings;
 mod step_done;
 mod stepping;
 mod taking;
+mod whole;
 mod world;
 mod world_deliveries;
 
