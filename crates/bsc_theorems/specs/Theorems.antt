@@ -21,7 +21,6 @@ use Rattle.bsc_checks.specs.declared.phase.Phase.TheVariants.{AwaitingRequest, C
 use Rattle.bsc_checks.specs.declared.verdict.Verdict.{Verdict}
 use Rattle.bsc_accept.specs as accepting
 use Rattle.bsc_accept.specs.declared.start.Start.{Start}
-use Rattle.bsc_accept.specs.declared.farewell.Farewell.{Farewell}
 use Rattle.bsc_accept.specs.declared.event.Event.{Event}
 use Rattle.bsc_initiate.specs as initiating
 use Rattle.bsc_initiate.specs.declared.event.InitEvent.{InitEvent}
@@ -46,7 +45,7 @@ use Rattle.bsc_session_laws.specs as sessions
 use Rattle.bsc_serve.specs.Alone as serving
 use Rattle.bsc_node_laws.specs.Links.{Brings}
 use Rattle.bsc_node_links.specs.Using.{RunsUseLinks}
-use Rattle.bsc_node_command.specs.Ran.{RanNodesTell}
+use Rattle.bsc_node_command.specs.Ran.{RanNodesTell, StoppedNodesTell}
 use Rattle.bsc_network.specs.Worlds.{Hub as SimulatedHub, Link}
 use Rattle.bsc_world.specs.Ports as simulated
 use Rattle.bsc_journal.specs.Journals.{Tells}
@@ -137,7 +136,7 @@ pub record OperationsAreTheModel : Type 0 where
   pub accepting_ticks : (s : Start) (E : List Event) (now : ℕ)
       → (accepting.Past.phase E ≡ AwaitingRequest → (accepting.Steps.closes (accepting.Steps.step s E (Event.Tick now)) ≡ true) ↔ (s.times.connect_wait ≤ now - s.at))
       × (accepting.Past.phase E ≡ Connected → (accepting.Steps.closes (accepting.Steps.step s E (Event.Tick now)) ≡ true) ↔ (2 * s.times.heartbeat ≤ now - accepting.Past.last_message s E))
-      × ((f : Farewell) → accepting.Past.standing E ≡ accepting.Past.disconnecting f
+      × ((f : accepting.declared.farewell.Farewell.Farewell) → accepting.Past.standing E ≡ accepting.Past.disconnecting f
       → (accepting.Steps.closes (accepting.Steps.step s E (Event.Tick now)) ≡ true) ↔ (s.times.disconnect_wait ≤ now - f.since))
   -- Every message puts the idle closing off, whatever the verdict on it.
   pub heard : (s : Start) (E : List Event) (now : ℕ) (v : Verdict) → accepting.Past.last_message s (E ++ Event.Message now v ∷ []) ≡ now
@@ -187,13 +186,13 @@ pub record LayersCompose {L C N W : Type 0} (talk : L → Option (List Said)) (w
   -- A reply wakes exactly those whose outboxes got the frame, and whom it ended.
   pub wakes : session.Concerned.WakesWhomItConcerns
   -- Nobody but the hub's own pass and those that it took in called a hub that was served.
-  pub alone : serving.ServingIsAlone works begins
+  pub alone : serving.ServingIsAlone works begins talk
   -- Each entry is of the hub's own caller or of the pass of a job that the spawner took.
-  pub of_jobs : serving.SeenAreOfJobs works begins
+  pub of_jobs : serving.SeenAreOfJobs works begins talk
   -- Each job that the spawner took has ended at last, and what is left of it stands in what the hub's pass has seen.
-  pub jobs_end : serving.JobsEndAtLast works begins
+  pub jobs_end : serving.JobsEndAtLast works begins talk
   -- Behind the Stop nobody joins and nothing is forwarded.
-  pub behind_stop : serving.NothingBehindStop works begins
+  pub behind_stop : serving.NothingBehindStop works begins talk
   -- At an event that may come a link begins only where none of its name is there, and that the node has ended is told only once it is to end.
   pub begins_anew : (a : Made) (start : TimedEvent) (events : List TimedEvent) (e : TimedEvent) → start.event ≡ NodeEvent.Start → IsTrue (node.Conditions.may_all_come a (start ∷ events))
       → IsTrue (node.Conditions.may_come (node.Node.log a (start ∷ events)) e) → Brings a (node.Node.log a (start ∷ events)) e e.event
@@ -201,13 +200,17 @@ pub record LayersCompose {L C N W : Type 0} (talk : L → Option (List Said)) (w
   pub links_used : RunsUseLinks talk
   -- Where each link that came had told nothing before, each tells at last what the log of the node that was run says of it.
   pub ran : RanNodesTell talk drawn
+  -- So it is of a node that a fault stopped, by the log of all that came to it.
+  pub stopped : StoppedNodesTell talk drawn
   -- Journals tell one history of one hub, if any.
   pub one_history : (o : List ℕ) (a b : About) (G H : List Entry) → Tells o a G → Tells o b H → (a ≡ b) × (G ≡ H)
 
 -- Whatever steps are made in a network of hubs and nodes, losses and takeovers among them, what it delivers was sent.
 pub record NetworksDeliverWhatWasSent : Type 0 where
-  -- Where what is sent goes to addresses of six octets, each delivery comes from the Send at its place, and no two are of one Send and to one node.
+  -- Each delivery comes from the Send at its place, and no two are of one Send and to one node.
   pub delivers : networks.Deliveries.NetworksDeliverWhatWasSent
+  -- Of each node the deliveries are all that it has delivered by its log, in order.
+  pub all : networks.Delivering.DeliveriesAreAll
   -- The history of each hub is legal.
   pub histories : networks.Connecting.HistoriesAreLegal
   -- Each NPDU that a node put on a way of a link is that of a Send of that very node, at its place.
@@ -224,17 +227,15 @@ pub record NetworksDeliverWhatWasSent : Type 0 where
   pub slots : (a : Made) → identity.Naming.SlotsHaveWhoNamedItself a
 
 -- Whatever hubs and nodes the commands ran, each for itself, what they delivered was sent. The wires alone are left to be believed.
-pub record WhatRanDelivers {L C N K W : Type 0} (talk : L → Option (List Said)) (faults : L → ℕ) (notices : L → Option (List Notice))
-    (readings : C → Option (List ℕ)) (held : N → Option (List ℕ)) (unput : N → ℕ) (begins : Option (List ℕ) → ℕ → N → Type 0)
-    (said : K → Option (List Said)) (drawn : NodeEvent → W → W → Type 0) : Type 0 where
+pub record WhatRanDelivers {L C N K W : Type 0} (talk : L → Option (List Said)) (faults : L → ℕ) (notices : L → Option (List Notice)) (readings : C → Option (List ℕ))
+    (held : N → Option (List ℕ)) (unput : N → ℕ) (begins : Option (List ℕ) → ℕ → N → Type 0) (said : K → Option (List Said)) (drawn : NodeEvent → W → W → Type 0) : Type 0 where
   -- Where each link keeps order and loses only what comes last, each delivery is of a Send, with the addresses of both nodes, and no two of one node are of the same.
   pub delivers : ran.Networks.HubsAndNodesThatRanDeliver talk faults notices readings held unput begins said drawn
   -- So it is where what each link told to one end is the first of what it told to the other.
   pub by_wires : ran.Wires.WhatRanDeliversByWires talk faults notices readings held unput begins said drawn
 
--- What is refused or ends has the cause that is told, as far as laws say it: docs/CAUSES.md lists the refusals of all calls with
--- their clauses. That a call without `rt` returns is what the check itself says of each function, and no clause; each place where
--- a call may wait for others is in the table 'What may wait' of docs/PROVED.md.
+-- What is refused or ends has the cause that is told, as far as laws say it; docs/CAUSES.md has the refusals of all calls with their clauses. That a call without
+-- `rt` returns is what the check itself says of each function, and no clause; where a call may wait for others stands in 'What may wait' of docs/PROVED.md.
 pub record RefusalsHaveTheirCauses : Type 0 where
   -- Octets that spell a message fail no check.
   pub spelled : (msg : Message) (m : List ℕ) (check : Check) → frame.Spelling.Spells msg m → frame.Checks.IsFirst check m → ⊥

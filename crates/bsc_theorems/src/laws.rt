@@ -77,6 +77,7 @@ pub fn layers_compose<L: Link, C: Clock, N: Sink, J: Journals<N>, W: Words>()
     bsc_node_laws::links_begin_anew();
     bsc_node_links::runs_use_links::<L>();
     bsc_node_command::ran_nodes_tell::<L, W>();
+    bsc_node_command::stopped_nodes_tell::<L, W>();
     bsc_audit_laws::one_history();
 }
 
@@ -85,6 +86,7 @@ pub fn networks_deliver_what_was_sent()
     ensures { NetworksDeliverWhatWasSent }
 {
     bsc_network_laws::networks_deliver_what_was_sent();
+    bsc_network_laws::deliveries_are_all();
     bsc_network_laws::histories_are_legal();
     bsc_network_laws::puts_what_was_sent();
     bsc_network_laws::outboxes_have_what_was_sent();

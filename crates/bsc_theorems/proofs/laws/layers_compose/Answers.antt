@@ -20,5 +20,6 @@ returns g c = record {
   begins_anew = c.links_begin_anew.ensures;
   links_used = c.runs_use_links.ensures;
   ran = c.ran_nodes_tell.ensures;
+  stopped = c.stopped_nodes_tell.ensures;
   one_history = c.one_history.ensures;
 }

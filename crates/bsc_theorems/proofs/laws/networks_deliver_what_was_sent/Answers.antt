@@ -3,6 +3,7 @@ use Rattle.bsc_theorems.proofs.laws.networks_deliver_what_was_sent.Goals as goal
 pub returns : goal.returns
 returns c = record {
   delivers = c.networks_deliver_what_was_sent.ensures;
+  all = c.deliveries_are_all.ensures;
   histories = c.histories_are_legal.ensures;
   puts = c.puts_what_was_sent.ensures;
   outboxes = c.outboxes_have_what_was_sent.ensures;
