@@ -75,7 +75,7 @@ class File:
         self.read(Path("crates", crate, file).read_text(encoding="utf-8").split("\n"))
 
     def read(self, lines):
-        comment, outside, modules, current = 0, "", [], None
+        comment, outside, begun, modules, current = 0, "", 0, [], None
         for number, line in enumerate(lines, 1):
             told = line.strip()
             if told.startswith("--"):
@@ -86,11 +86,13 @@ class File:
             if re.match(r"infix[lr]?\b", told):
                 continue
             if outside or OUTSIDE.match(told):
+                # The head of a module may have several lines: it stands where the first of them does.
+                begun = begun if outside else indent
                 outside += code + "\n"
                 current = None
                 if outside.split()[0] == "module":
                     if outside.rstrip().endswith("where"):
-                        modules = [it for it in modules if it[0] < indent] + [(indent, outside)]
+                        modules = [it for it in modules if it[0] < begun] + [(begun, outside)]
                         outside = ""
                 elif outside.count("{") <= outside.count("}"):
                     self.read_use(outside.strip())
