@@ -40,12 +40,16 @@ pub trait Acceptor<L> {
     /// The waits that `next` was asked for, in milliseconds, where they are told.
     ghost waits: { Self → Option (List ℕ) };
 
+    /// The places of the Stops with which it woke all links, in order, where they are told.
+    ghost stops: { Self → Option (List ℕ) } = { λ _. None };
+
     /// Takes the links that come to this TCP port from now on, for the hub or the node at this VMAC.
     fn bind(&mut self, port: u16, owner: Vmac) -> Result<(), Failed>
         ensures bound { IfOk result (λ _. ToldIs (bound self.new) (Some port)) }
         ensures left { Stays (left self.old) (left self.new) }
         ensures came { Stays (came self.old) (came self.new) }
         ensures waits { Stays (waits self.old) (waits self.new) }
+        ensures unwoken { stops self.new ≡ stops self.old }
         ensures later { faults self.old ≤ faults self.new }
         ensures failed { IsErr result → HasRisen (faults self.old) (faults self.new) }
         ensures quiets { quiets self.old ≤ quiets self.new };
@@ -57,8 +61,20 @@ pub trait Acceptor<L> {
         ensures came { Grows (came self.old) (came self.new) (arrived_in result) }
         ensures fresh { list_all fresh (arrived_in result) ≡ true }
         ensures waits { Grows (waits self.old) (waits self.new) (wait_ms ∷ []) }
+        ensures unwoken { stops self.new ≡ stops self.old }
         ensures later { faults self.old ≤ faults self.new }
         ensures failed { result ≡ Err LinkFault.Failed → HasRisen (faults self.old) (faults self.new) }
         ensures quiets { quiets self.old ≤ quiets self.new }
         ensures quiet { IsNoLink result → HasRisen (quiets self.old) (quiets self.new) };
+
+    /// The hub of these links is stopped, by the entry at this place of its history: the wait of each link that came ends, or its
+    /// next one.
+    fn wake_all(&mut self, at: u64)
+        ensures woken { Grows (stops self.old) (stops self.new) (at ∷ []) }
+        ensures bound { bound self.new ≡ bound self.old }
+        ensures left { left self.new ≡ left self.old }
+        ensures came { came self.new ≡ came self.old }
+        ensures waits { waits self.new ≡ waits self.old }
+        ensures same { faults self.new ≡ faults self.old }
+        ensures quiets { quiets self.new ≡ quiets self.old };
 }

@@ -1,5 +1,5 @@
 //! Real journals.
-ghost use Rattle.std.specs.Prelude.{◌≡◌, ◌≤◌, [], ◌∷◌, Some, Err, IfOk, option_map};
+ghost use Rattle.std.specs.Prelude.{◌≡◌, ◌≤◌, [], ◌∷◌, ◌++◌, codes, decimal, string_bytes, Some, Err, IfOk, option_map};
 ghost use Rattle.bsc_edge.specs.Asked.{begun_by};
 ghost use Rattle.bsc_edge.specs.declared.fault.LinkFault.{LinkFault};
 ghost use Rattle.bsc_edge.specs.Held.{BeginsEmpty};
@@ -9,6 +9,7 @@ use crate::begun::Begun;
 use crate::disk_journal::DiskJournal;
 use crate::fault::LinkFault;
 use crate::journals::Journals;
+use bsc_octets::NoMemory;
 use bsc_outside::Sink;
 use bsc_past::{Happened, Past};
 use std::alloc::Global;
@@ -68,6 +69,13 @@ fn tell_unbegun<R: Eprint>(rt: &R, path: &str, error: io::Error) {
     }
 }
 
+/// The path of the journal with this number under this prefix.
+fn path_of(alloc: Global, prefix: &str, number: u64) -> Result<String, NoMemory>
+    ensures { IfOk result (λ path. string_bytes path ≡ prefix.now ++ codes "." ++ decimal number) }
+{
+    Ok(format!(in alloc; "{prefix}.{number}")?)
+}
+
 /// Begins the journal with this number under this prefix, and counts where that fails.
 fn begin_at<R: fs::Files + Eprint>(
     rt: &R,
@@ -84,7 +92,7 @@ fn begin_at<R: fs::Files + Eprint>(
     let Some(prefix) = prefix else {
         return Ok(DiskJournal::dropping());
     };
-    let Ok(path) = format!(in alloc; "{prefix}.{number}") else {
+    let Ok(path) = path_of(alloc, prefix, number) else {
         return Err(LinkFault::NoMemory);
     };
     match File::create_new(rt, path.as_str()) {

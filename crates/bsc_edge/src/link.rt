@@ -25,13 +25,13 @@ pub trait Link {
     /// What was said, where the link tells it.
     ghost talk: { Self → Option (List SaidType) };
 
-    /// Whose connection it was said to be, and whom it was asked to wake, in order, where the link tells it.
+    /// Whose connection it was said to be, whom it was asked to wake, and each receive, in order, where the link tells it.
     ghost notices: { Self → Option (List NoticeType) } = { λ _. None };
 
     /// Waits this long for the next thing, in milliseconds.
     fn receive(&mut self, alloc: Global, wait_ms: u32) -> Result<Incoming, LinkFault>
         ensures told { Grows (talk self.old) (talk self.new) (Said.Gave wait_ms result ∷ []) }
-        ensures unwoken { notices self.new ≡ notices self.old }
+        ensures asked { Grows (notices self.old) (notices self.new) (Notice.Asked ∷ []) }
         ensures later { faults self.old ≤ faults self.new }
         ensures failed { result ≡ Err LinkFault.Failed → HasRisen (faults self.old) (faults self.new) }
         ensures quiets { quiets self.old ≤ quiets self.new }

@@ -10,18 +10,21 @@ use crate::calls::Calls;
 use crate::fault::LinkFault;
 use crate::notes::note;
 use bsc_octets::Vmac;
+use bsc_past::Past;
 use std::alloc::Global;
 use std::collections::VecDeque;
 
 /// An acceptor at which these links arrive, and then none. The calls with these numbers fail. It tells the waits that it was
-/// asked for while there is memory for it.
-#[derive(Debug, Drop)]
+/// asked for while there is memory for it. Links in memory wait for nothing, so it wakes none; it tells contracts with which Stops it
+/// was to.
+#[derive(Drop)]
 pub struct MemAcceptor<'a, L> {
     links: VecDeque<L>,
     calls: Calls<'a>,
     quiets: u64,
     bound: Option<u16>,
     waits: Option<Vec<u32>>,
+    stops: Past<u64>,
 }
 
 impl<'a, L> MemAcceptor<'a, L> {
@@ -30,6 +33,7 @@ impl<'a, L> MemAcceptor<'a, L> {
         ensures failing { result.calls.failing.now ≡ failing.now }
         ensures bound { result.bound ≡ None }
         ensures waits { noted result.waits ≡ Some [] }
+        ensures stops { result.stops.items ≡ [] }
     {
         MemAcceptor {
             links: VecDeque::from(links),
@@ -37,6 +41,7 @@ impl<'a, L> MemAcceptor<'a, L> {
             quiets: 0,
             bound: None,
             waits: Some(Vec::new(alloc)),
+            stops: Past::new(),
         }
     }
 
@@ -74,6 +79,8 @@ impl<L> Acceptor<L> for MemAcceptor<'_, L> {
 
     ghost waits = { λ a. noted a.waits };
 
+    ghost stops = { λ a. Some a.stops.items };
+
     fn bind(&mut self, port: u16, _owner: Vmac) -> Result<(), Failed> {
         if self.calls.fails() {
             return Err(Failed);
@@ -94,5 +101,9 @@ impl<L> Acceptor<L> for MemAcceptor<'_, L> {
                 Ok(Arrived::Quiet)
             }
         }
+    }
+
+    fn wake_all(&mut self, at: u64) {
+        self.stops.add(&at);
     }
 }

@@ -17,14 +17,15 @@ pub trait Patience {
     /// The waits that were set, in milliseconds, where they are told.
     ghost waits: { Self → Option (List ℕ) };
 
-    /// Whose connection the link was said to be, and whom it was asked to wake, in order, where that is told.
+    /// Whose connection the link was said to be, whom it was asked to wake, and each wait that was to be set, in order, where that is
+    /// told.
     ghost notices: { Self → Option (List NoticeType) } = { λ _. None };
 
     /// The next reads of the stream wait this long, in milliseconds, all of them together.
     fn set(&mut self, wait_ms: u32) -> Result<(), Failed>
         ensures told { IfOk result (λ _. Grows (waits self.old) (waits self.new) (wait_ms ∷ [])) }
         ensures unset { IsErr result → Stays (waits self.old) (waits self.new) }
-        ensures unwoken { notices self.new ≡ notices self.old }
+        ensures asked { Grows (notices self.old) (notices self.new) (Notice.Asked ∷ []) }
         ensures later { faults self.old ≤ faults self.new }
         ensures failed { IsErr result → HasRisen (faults self.old) (faults self.new) };
 

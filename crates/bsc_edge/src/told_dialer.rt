@@ -1,7 +1,10 @@
 //! A dialer that tells its calls and the links that came.
-ghost use Rattle.std.specs.Prelude.{◌≡◌, true, [], ◌∷◌, Some};
+ghost use Rattle.std.specs.Prelude.{◌≡◌, ◌≤◌, true, [], ◌∷◌, Some, Err};
 ghost use Rattle.std.specs.List.{list_all};
-ghost use Rattle.bsc_edge.specs.Dialling.{dialled, made_in};
+ghost use Rattle.bsc_edge.specs.declared.fault.LinkFault.{LinkFault};
+ghost use Rattle.bsc_edge.specs.Dialling.{dialled, made_in, Takes};
+ghost use Rattle.bsc_edge.specs.Told.{Grows};
+ghost use Rattle.bsc_outside.specs.Faults.{HasRisen};
 
 use crate::dialer::Dialer;
 use crate::dialled::Dialled;
@@ -82,7 +85,16 @@ impl<L, D: Dialer<L>> Dialer<L> for ToldDialer<D, L> {
 
     ghost left = { λ d. D.left d.dialer };
 
-    fn dial(&mut self, alloc: Global, uri: &[u8], kind: Kind) -> Result<L, LinkFault> {
+    fn dial(&mut self, alloc: Global, uri: &[u8], kind: Kind) -> Result<L, LinkFault>
+        // The dialer under it was asked for this URI and this kind, once, and this is what it answered.
+        ensures under { Grows (D.calls self.old.dialer) (D.calls self.new.dialer) (dialled uri.now kind result ∷ []) }
+        ensures told { Grows (Some self.old.calls.items) (Some self.new.calls.items) (dialled uri.now kind result ∷ []) }
+        ensures left { Takes (D.left self.old.dialer) (D.left self.new.dialer) result }
+        ensures came { Grows (Some self.old.came.items) (Some self.new.came.items) (made_in result) }
+        ensures fresh { list_all D.fresh (made_in result) ≡ true }
+        ensures later { D.faults self.old.dialer ≤ D.faults self.new.dialer }
+        ensures failed { result ≡ Err LinkFault.Failed → HasRisen (D.faults self.old.dialer) (D.faults self.new.dialer) }
+    {
         let answer = self.dialer.dial(alloc, uri, kind);
         self.calls.note(&Dialling {
             uri,

@@ -11,7 +11,7 @@ use bsc_past::Past;
 use std::alloc::Global;
 
 /// A link over another, whose talk it tells to contracts: what each call was given, and what it answered; and whose connection
-/// it was said to be, and whom it was asked to wake. It takes no memory of its own, and does nothing more than the link under it.
+/// it was said to be, and whom it was asked to wake, between which receives. It takes no memory of its own, and does nothing more than the link under it.
 #[derive(Drop)]
 pub struct ToldLink<L> {
     link: L,
@@ -46,6 +46,7 @@ impl<L: Link> Link for ToldLink<L> {
     fn receive(&mut self, alloc: Global, wait_ms: u32) -> Result<Incoming, LinkFault> {
         let answer = self.link.receive(alloc, wait_ms);
         self.talk.note(&Saying::Gave(wait_ms, &answer));
+        self.notices.add(&Notice::Asked);
         answer
     }
 

@@ -1,8 +1,16 @@
 //! An acceptor of one thread whose handshakes wait in one poll.
-ghost use Rattle.std.specs.Prelude.{◌≡◌, ◌≤◌, None};
+ghost use Rattle.std.specs.Prelude.{◌≡◌, ◌≤◌, true, [], ◌∷◌, Some, None, Ok, Err, IsErr, IfOk, IfSome};
+ghost use Rattle.std.specs.List.{list_all};
 ghost use Rattle.std.proofs.Common.{refl};
+ghost use Rattle.bsc_edge.specs.declared.fault.LinkFault.{LinkFault};
+ghost use Rattle.bsc_edge.specs.Told.{Grows, IsNoLink, Leaves, Stays, ToldIs, arrived_in};
+ghost use Rattle.bsc_outside.specs.Faults.{HasRisen};
+ghost use Rattle.bsc_gate.specs.Arriving.{IfLink};
+ghost use Rattle.tungstenite.specs.Heads.{Heard};
 
+use crate::done::Done;
 use crate::handshakes::{Handshakes, Turned};
+use crate::listening::Listening;
 use crate::socket_link::{HANDSHAKE_MS, SocketLink, accepted};
 use bsc_edge::{Acceptor, Arrived, Failed, Kind, LinkFault};
 use bsc_live::{Bells, LOOK_MS, Lingering, Moment, Seat, Watch};
@@ -11,9 +19,8 @@ use mio::net::{TcpListener, TcpStream};
 use mio::unix::SourceFd;
 use mio::{Events, Interest, Poll, Token};
 use std::alloc::Global;
-use std::collections::VecDeque;
 use std::io::{self, ErrorKind};
-use std::net::{Ipv4Addr, Net, SocketAddr};
+use std::net::{Ipv4Addr, Net, SocketAddr, SocketAddrV4};
 use std::os::fd::AsRawFd;
 use std::random::RandomSource;
 use std::sync::{Arc, Wait};
@@ -50,7 +57,7 @@ enum Backlog {
 
 /// Takes the streams that come to a port, and hands out links whose handshake is done. All handshakes wait in one poll
 /// with the listener, each for 1,000 ms at most as a whole; where all places are taken the oldest goes. A stream that
-/// fails, or that can't be taken, is no fault of the gate.
+/// fails, or that can't be taken, is no fault of the gate. It tells contracts the port that it is bound to.
 #[derive(Drop)]
 pub struct Gate<R: Clock + Net + Wait + Copy + Drop> {
     rt: R,
@@ -60,9 +67,11 @@ pub struct Gate<R: Clock + Net + Wait + Copy + Drop> {
     poll: Poll,
     events: Events,
     listener: Option<TcpListener>,
+    /// The port that it is bound to.
+    bound: Option<u16>,
     backlog: Backlog,
     handshakes: Handshakes,
-    done: VecDeque<SocketLink<R>>,
+    done: Done<SocketLink<R>>,
     watch: Option<Arc<Watch>>,
     seat: Option<Seat>,
     lingering: Option<Arc<Lingering>>,
@@ -92,7 +101,10 @@ impl<R: Clock + Net + Wait + RandomSource + Copy + Drop> Gate<R> {
         kind: Kind,
         bells: Arc<Bells>,
         places: usize,
-    ) -> io::Result<Gate<R>> {
+    ) -> io::Result<Gate<R>>
+        ensures kind { IfOk result (λ g. g.kind ≡ kind) }
+        ensures bound { IfOk result (λ g. g.bound ≡ None) }
+    {
         let Ok(handshakes) = Handshakes::new(alloc, places) else {
             return Err(io::Error::from(ErrorKind::OutOfMemory));
         };
@@ -107,9 +119,10 @@ impl<R: Clock + Net + Wait + RandomSource + Copy + Drop> Gate<R> {
             poll: Poll::new(&rt)?,
             events,
             listener: None,
+            bound: None,
             backlog: Backlog::Empty,
             handshakes,
-            done: VecDeque::new(alloc),
+            done: Done::new(alloc),
             watch: None,
             seat: None,
             lingering: None,
@@ -119,7 +132,10 @@ impl<R: Clock + Net + Wait + RandomSource + Copy + Drop> Gate<R> {
     }
 
     /// The same gate, which is waited for at this watch, as are its links.
-    pub fn watched_by(self, watch: Arc<Watch>) -> io::Result<Gate<R>> {
+    pub fn watched_by(self, watch: Arc<Watch>) -> io::Result<Gate<R>>
+        ensures kind { IfOk result (λ g. g.kind ≡ self.kind) }
+        ensures bound { IfOk result (λ g. g.bound ≡ self.bound) }
+    {
         let mut gate = self;
         let fd = gate.poll.as_raw_fd();
         gate.seat = Some(Seat::take(&watch, &mut SourceFd(&fd))?);
@@ -128,7 +144,10 @@ impl<R: Clock + Net + Wait + RandomSource + Copy + Drop> Gate<R> {
     }
 
     /// The same gate, whose links' sockets linger here once they are dropped. While it waits, it looks at all that linger here.
-    pub fn lingering_at(self, lingering: Arc<Lingering>) -> Gate<R> {
+    pub fn lingering_at(self, lingering: Arc<Lingering>) -> Gate<R>
+        ensures kind { result.kind ≡ self.kind }
+        ensures bound { result.bound ≡ self.bound }
+    {
         let mut gate = self;
         gate.lingering = Some(lingering);
         gate
@@ -157,6 +176,13 @@ impl<R: Clock + Net + Wait + RandomSource + Copy + Drop> Gate<R> {
         }
     }
 
+    /// The port that it is bound to, as it was asked for.
+    pub fn port(&self) -> Option<u16>
+        ensures { result ≡ self.now.bound }
+    {
+        self.bound
+    }
+
     /// How many streams were turned away.
     pub fn turned(&self) -> Turned {
         self.handshakes.turned()
@@ -164,14 +190,21 @@ impl<R: Clock + Net + Wait + RandomSource + Copy + Drop> Gate<R> {
 
     /// Listens at the port.
     fn listen(&mut self, port: u16) -> io::Result<()>
+        ensures kind { self.new.kind ≡ self.old.kind }
+        ensures bound { IfOk result (λ _. self.new.bound ≡ Some port) }
         ensures faults { self.new.faults ≡ self.old.faults }
         ensures quiets { self.new.quiets ≡ self.old.quiets }
     {
-        let mut listener = TcpListener::bind(&self.rt, SocketAddr::from((self.host, port)))?;
+        let Listening { listener, at } = Listening::bind(
+            &self.rt,
+            SocketAddrV4::new(self.host, port),
+        )?;
+        let mut listener = listener;
         self.poll
             .registry()
             .register(&mut listener, LISTENER, Interest::READABLE)?;
         self.listener = Some(listener);
+        self.bound = Some(at.port());
         self.backlog = Backlog::More;
         Ok(())
     }
@@ -180,6 +213,8 @@ impl<R: Clock + Net + Wait + RandomSource + Copy + Drop> Gate<R> {
     fn admit(&mut self, alloc: Global, socket: TcpStream, until: Moment)
         ensures faults { self.new.faults ≡ self.old.faults }
         ensures quiets { self.new.quiets ≡ self.old.quiets }
+        ensures bound { self.new.bound ≡ self.old.bound }
+        ensures kind { self.new.kind ≡ self.old.kind }
     {
         let Some(place) = self.handshakes.place() else {
             return;
@@ -195,8 +230,10 @@ impl<R: Clock + Net + Wait + RandomSource + Copy + Drop> Gate<R> {
     fn drive(&mut self, alloc: Global, place: usize)
         ensures faults { self.new.faults ≡ self.old.faults }
         ensures quiets { self.new.quiets ≡ self.old.quiets }
+        ensures bound { self.new.bound ≡ self.old.bound }
+        ensures kind { self.new.kind ≡ self.old.kind }
     {
-        let Some((socket, is_registered)) = self.handshakes.go_on(place) else {
+        let Some((socket, kind, is_registered)) = self.handshakes.go_on(place) else {
             return;
         };
         let mut socket = socket;
@@ -210,12 +247,13 @@ impl<R: Clock + Net + Wait + RandomSource + Copy + Drop> Gate<R> {
             self.rt,
             alloc,
             socket,
+            kind,
             &self.bells,
             &self.watch,
             &self.lingering,
         );
         if let Ok(link) = link {
-            let _ = self.done.push_back(link);
+            self.done.push(link);
         }
     }
 
@@ -223,6 +261,8 @@ impl<R: Clock + Net + Wait + RandomSource + Copy + Drop> Gate<R> {
     fn take_stream(&mut self) -> Option<TcpStream>
         ensures faults { self.new.faults ≡ self.old.faults }
         ensures quiets { self.new.quiets ≡ self.old.quiets }
+        ensures bound { self.new.bound ≡ self.old.bound }
+        ensures kind { self.new.kind ≡ self.old.kind }
     {
         let taken = match &self.listener {
             Some(listener) => listener.accept(),
@@ -246,6 +286,8 @@ impl<R: Clock + Net + Wait + RandomSource + Copy + Drop> Gate<R> {
     fn take_streams(&mut self, alloc: Global, now: Moment)
         ensures faults { self.new.faults ≡ self.old.faults }
         ensures quiets { self.new.quiets ≡ self.old.quiets }
+        ensures bound { self.new.bound ≡ self.old.bound }
+        ensures kind { self.new.kind ≡ self.old.kind }
     {
         self.backlog = Backlog::More;
         for _ in 0..BATCH {
@@ -260,6 +302,8 @@ impl<R: Clock + Net + Wait + RandomSource + Copy + Drop> Gate<R> {
     fn drive_all(&mut self, alloc: Global, tokens: &[Token])
         ensures faults { self.new.faults ≡ self.old.faults }
         ensures quiets { self.new.quiets ≡ self.old.quiets }
+        ensures bound { self.new.bound ≡ self.old.bound }
+        ensures kind { self.new.kind ≡ self.old.kind }
     {
         for token in tokens {
             match token.0.checked_sub(1) {
@@ -273,6 +317,8 @@ impl<R: Clock + Net + Wait + RandomSource + Copy + Drop> Gate<R> {
     fn turn(&mut self, alloc: Global, left: u64) -> io::Result<Moment>
         ensures faults { self.new.faults ≡ self.old.faults }
         ensures quiets { self.new.quiets ≡ self.old.quiets }
+        ensures bound { self.new.bound ≡ self.old.bound }
+        ensures kind { self.new.kind ≡ self.old.kind }
     {
         let wait = match self.backlog {
             Backlog::Empty => left.min(SWEEP),
@@ -297,21 +343,40 @@ impl<R: Clock + Net + Wait + RandomSource + Copy + Drop> Gate<R> {
         Ok(now)
     }
 
-    /// The link that is done first, within so many milliseconds.
-    fn wait_for(&mut self, alloc: Global, wait_ms: u32) -> io::Result<Option<SocketLink<R>>>
+    /// The link that was done first. One of another kind isn't handed out.
+    fn take_done(&mut self) -> Option<SocketLink<R>>
+        ensures asked { IfSome result (λ l. (l.kind ≡ self.old.kind) × ¬ (¬ Heard)) }
         ensures faults { self.new.faults ≡ self.old.faults }
         ensures quiets { self.new.quiets ≡ self.old.quiets }
+        ensures bound { self.new.bound ≡ self.old.bound }
+        ensures kind { self.new.kind ≡ self.old.kind }
+    {
+        let link = self.done.pop()?;
+        if link.kind() == self.kind {
+            Some(link)
+        } else {
+            None
+        }
+    }
+
+    /// The link that is done first, within so many milliseconds.
+    fn wait_for(&mut self, alloc: Global, wait_ms: u32) -> io::Result<Option<SocketLink<R>>>
+        ensures asked { IfOk result (λ o. IfSome o (λ l. (l.kind ≡ self.old.kind) × ¬ (¬ Heard))) }
+        ensures faults { self.new.faults ≡ self.old.faults }
+        ensures quiets { self.new.quiets ≡ self.old.quiets }
+        ensures bound { self.new.bound ≡ self.old.bound }
+        ensures kind { self.new.kind ≡ self.old.kind }
     {
         let mut now = Moment::now(&self.rt)?;
         let until = now.after(wait_ms);
         for _ in 0..u64::MAX {
-            if let Some(link) = self.done.pop_front() {
+            if let Some(link) = self.take_done() {
                 return Ok(Some(link));
             }
             let left = until.left(now);
             now = self.turn(alloc, left)?;
             if left == 0 {
-                return Ok(self.done.pop_front());
+                return Ok(self.take_done());
             }
         }
         Ok(None)
@@ -323,7 +388,7 @@ impl<R: Clock + Net + Wait + RandomSource + Copy + Drop> Acceptor<SocketLink<R>>
 
     ghost quiets = { λ g. g.quiets };
 
-    ghost bound = { λ _. None };
+    ghost bound = { λ g. Some g.bound };
 
     ghost left = { λ _. None };
 
@@ -331,7 +396,14 @@ impl<R: Clock + Net + Wait + RandomSource + Copy + Drop> Acceptor<SocketLink<R>>
 
     ghost waits = { λ _. None };
 
-    fn bind(&mut self, port: u16, _owner: Vmac) -> Result<(), Failed> {
+    fn bind(&mut self, port: u16, _owner: Vmac) -> Result<(), Failed>
+        // It stays of the kind that it was made for.
+        ensures kind { self.new.kind ≡ self.old.kind }
+        ensures bound { IfOk result (λ _. ToldIs (Some self.new.bound) (Some port)) }
+        ensures later { self.old.faults ≤ self.new.faults }
+        ensures failed { IsErr result → HasRisen self.old.faults self.new.faults }
+        ensures quiets { self.old.quiets ≤ self.new.quiets }
+    {
         match self.listen(port) {
             Ok(()) => Ok(()),
             Err(_) => {
@@ -341,7 +413,21 @@ impl<R: Clock + Net + Wait + RandomSource + Copy + Drop> Acceptor<SocketLink<R>>
         }
     }
 
-    fn next(&mut self, alloc: Global, wait_ms: u32) -> Result<Arrived<SocketLink<R>>, LinkFault> {
+    fn next(&mut self, alloc: Global, wait_ms: u32) -> Result<Arrived<SocketLink<R>>, LinkFault>
+        // A link that is handed out was asked for: it isn't so that no head was taken which asks for an upgrade with a valid key.
+        ensures asked { IfLink result (λ _. ¬ (¬ Heard)) }
+        // It is of the gate's kind.
+        ensures kind { IfLink result (λ l. l.kind ≡ self.old.kind) }
+        ensures bound { Stays (Some self.old.bound) (Some self.new.bound) }
+        ensures left { Leaves None None result }
+        ensures came { Grows None None (arrived_in result) }
+        ensures fresh { list_all (λ _. true) (arrived_in result) ≡ true }
+        ensures waits { Grows None None (wait_ms ∷ []) }
+        ensures later { self.old.faults ≤ self.new.faults }
+        ensures failed { result ≡ Err LinkFault.Failed → HasRisen self.old.faults self.new.faults }
+        ensures quiets { self.old.quiets ≤ self.new.quiets }
+        ensures quiet { IsNoLink result → HasRisen self.old.quiets self.new.quiets }
+    {
         match self.wait_for(alloc, wait_ms) {
             Ok(Some(link)) => Ok(Arrived::Link(link)),
             Ok(None) => {
@@ -353,5 +439,9 @@ impl<R: Clock + Net + Wait + RandomSource + Copy + Drop> Acceptor<SocketLink<R>>
                 Err(LinkFault::Failed)
             }
         }
+    }
+
+    fn wake_all(&mut self, _at: u64) {
+        self.bells.ring_all(&self.rt);
     }
 }

@@ -1,6 +1,9 @@
 //! The handshakes that are at work, as rows of one table.
-ghost use Rattle.std.specs.Prelude.{◌≡◌, ◌<◌, IfSome, vec_len};
+ghost use Rattle.std.specs.Prelude.{◌≡◌, ◌<◌, [], None, IfSome, vec_len};
+ghost use Rattle.bsc_gate.specs.Oldest.{MayTake};
+ghost use Rattle.tungstenite.specs.Heads.{Heard};
 
+use crate::oldest::{Oldest, older};
 use bsc_edge::Kind;
 use bsc_live::Moment;
 use bsc_octets::NoMemory;
@@ -60,24 +63,23 @@ impl Handshakes {
         self.turned
     }
 
-    /// A free place, or the place of the oldest handshake; none where the table has no places.
+    /// A free place, or the place of the oldest handshake, that whose time is over first; none where the table has no places.
     pub(crate) fn place(&self) -> Option<usize>
-        ensures { IfSome result (λ p. p < vec_len self.now.rows) }
+        ensures within { IfSome result (λ p. p < vec_len self.now.rows) }
+        ensures oldest { IfSome result (λ p. MayTake (λ r. r.until.micros) self.now.rows.items p) }
+        ensures none { result ≡ None → self.now.rows.items ≡ [] }
     {
-        let mut oldest = None;
-        let mut least = Moment { micros: u64::MAX };
+        let mut oldest = Oldest {
+            place: None,
+            until: Moment { micros: u64::MAX },
+        };
         for (place, row) in self.rows.iter().enumerate() {
             match row {
                 None => return Some(place),
-                Some(row) => {
-                    if row.until.micros <= least.micros {
-                        least = row.until;
-                        oldest = Some(place);
-                    }
-                }
+                Some(row) => oldest = older(oldest, place, row.until),
             }
         }
-        oldest
+        oldest.place
     }
 
     /// Begins a handshake at a place. What stood there is dropped.
@@ -130,9 +132,11 @@ impl Handshakes {
         }
     }
 
-    /// Goes on with the handshake at a place. Gives its socket where it is done, and whether a registry tells of it.
-    pub(crate) fn go_on(&mut self, place: usize) -> Option<(TcpStream, bool)>
-        ensures { vec_len self.new.rows ≡ vec_len self.old.rows }
+    /// Goes on with the handshake at a place. Gives its socket where it is done, the kind of link that was asked for, and whether a
+    /// registry tells of it.
+    pub(crate) fn go_on(&mut self, place: usize) -> Option<(TcpStream, Kind, bool)>
+        ensures rows { vec_len self.new.rows ≡ vec_len self.old.rows }
+        ensures heard { IfSome result (λ _. Heard) }
     {
         let row = self.rows.get_mut(place)?;
         let Row {
@@ -149,7 +153,7 @@ impl Handshakes {
                 });
                 None
             }
-            Step::Done(socket) => Some((socket, is_registered)),
+            Step::Done(socket, kind) => Some((socket, kind, is_registered)),
             Step::Refused => {
                 self.turned.refused = self.turned.refused.saturating_add(1);
                 None

@@ -4,8 +4,11 @@
 //! links that are done, so that no peer makes it wait. `SocketOpener` opens the streams that a `StreamDialer` dials over.
 #![tactic(auto)]
 
+mod done;
 mod gate;
 mod handshakes;
+mod listening;
+mod oldest;
 mod opening;
 mod socket_link;
 

@@ -1,5 +1,8 @@
 //! Links over sockets.
-use bsc_edge::LinkFault;
+ghost use Rattle.std.specs.Prelude.{◌≡◌, IfOk};
+ghost use Rattle.tungstenite.specs.Heads.{Heard};
+
+use bsc_edge::{Kind, LinkFault};
 use bsc_live::{Bells, Debts, Lingering, LivePatience, LiveStream, Watch};
 use bsc_ws::{RandomKeys, StreamLink, settle};
 use mio::net::TcpStream;
@@ -59,20 +62,24 @@ pub(crate) fn alive<R: Clock + Net + Wait + Copy + Drop>(
     Ok((stream, LivePatience::new(rt, bell, bells)))
 }
 
-/// The link over a socket whose handshake is done. Where nobody waits for it together with others, what is put before the next
+/// The link of this kind over a socket whose handshake is done. Where nobody waits for it together with others, what is put before the next
 /// receive leaves together, and whom it wakes by then is woken behind that: who waits at a watch does so before it receives, and what
 /// it has put is to have left by then.
 pub(crate) fn accepted<R: Clock + Net + Wait + RandomSource + Copy + Drop>(
     rt: R,
     alloc: Global,
     socket: TcpStream,
+    kind: Kind,
     bells: &Arc<Bells>,
     watch: &Option<Arc<Watch>>,
     lingering: &Option<Arc<Lingering>>,
-) -> Result<SocketLink<R>, LinkFault> {
+) -> Result<SocketLink<R>, LinkFault>
+    requires { Heard }
+    ensures { IfOk result (λ l. l.kind ≡ kind) }
+{
     let (stream, wait) = alive(rt, alloc, socket, bells, watch, lingering)?;
     if watch.is_some() {
-        return Ok(settle(alloc, stream, wait, RandomKeys::new(rt)));
+        return Ok(settle(alloc, stream, wait, RandomKeys::new(rt), kind));
     }
     let Ok(debts) = Arc::new(alloc, Debts::new(alloc)) else {
         return Err(LinkFault::NoMemory);
@@ -81,5 +88,5 @@ pub(crate) fn accepted<R: Clock + Net + Wait + RandomSource + Copy + Drop>(
         return Err(LinkFault::NoMemory);
     };
     let wait = wait.owing(debts);
-    Ok(settle(alloc, stream, wait, RandomKeys::new(rt)))
+    Ok(settle(alloc, stream, wait, RandomKeys::new(rt), kind))
 }

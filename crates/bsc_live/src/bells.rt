@@ -63,6 +63,16 @@ impl Bells {
         }
     }
 
+    /// Rings each bell that is listed. Under each lock in turn: one write for each of its streams that sleeps.
+    pub fn ring_all<R: Wait>(&self, rt: &R) {
+        for shelf in self.shelves.as_slice() {
+            let listed = shelf.lock(rt);
+            for bell in listed.values() {
+                bell.ring();
+            }
+        }
+    }
+
     /// Asks the connection's bell what becomes of a ring of connection `by`. That and the bell, where its stream is to be woken, now
     /// or later.
     fn call_by<R: Wait>(&self, rt: &R, conn: u64, by: u64) -> Option<(Ringing, Arc<Bell>)> {

@@ -1,7 +1,7 @@
 //! Sockets that wait for their octets and for a wake at once.
 //!
-//! Start at `stream`: a `LiveStream` reads and writes a socket that doesn't block. While it waits it stands in one
-//! `poll`, which its socket or its `Bell` ends. `Bells` finds the bell of a connection, and `LivePatience` is what a
+//! Start at `stream`: a `LiveStream` reads and writes a socket that doesn't block. While that waits (`socket`) it stands in one
+//! `poll`, which the socket or its `Bell` ends; `held` has what is written and hasn't left, over any wire. `Bells` finds the bell of a connection, and `LivePatience` is what a
 //! link sets the waits and rings the bells by; `Debts` are the rings that a link puts off. At a `Watch` many streams
 //! are waited for together. A stream's socket may end at `Lingering`, so that nothing that was written is lost to a
 //! reset. No clause says when a wait ends: the system holds that.
@@ -10,11 +10,15 @@
 mod bell;
 mod bells;
 mod debts;
+mod held;
 mod lingering;
 mod moment;
 mod patience;
+mod raw;
+mod socket;
 mod stream;
 mod watch;
+mod wire;
 
 pub use bell::Bell;
 pub use bells::Bells;

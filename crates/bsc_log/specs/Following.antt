@@ -5,7 +5,7 @@ use Rattle.bsc_accept.specs.declared.reason.Reason.{Reason}
 use Rattle.bsc_edge.specs.declared.fault.LinkFault.TheVariants.{Failed, NoMemory}
 use Rattle.bsc_edge.specs.declared.incoming.Incoming.TheVariants.{Message, Closed as PeerClosed}
 use Rattle.bsc_edge.specs.declared.notice.Notice.{Notice}
-use Rattle.bsc_edge.specs.declared.notice.Notice.TheVariants.{Known, Woke}
+use Rattle.bsc_edge.specs.declared.notice.Notice.TheVariants.{Asked, Known, Woke}
 use Rattle.bsc_edge.specs.declared.said.Said.{Said}
 use Rattle.bsc_edge.specs.declared.said.Said.TheVariants.{Gave, Put, Closed}
 use Rattle.bsc_octets.specs.declared.identity.Identity.{Identity}
@@ -67,8 +67,9 @@ module _ {R : Type 0} where
   Hears old new (Closed code text) =
       (reason : Option Reason) × IsReasonOf text reason × (taken : Bool) × Ends old new (closed_at old.course.stage code reason taken)
 
-  -- How it goes on by what the link is told.
+  -- How it goes on by what the link is told. What a receive makes of it stands above.
   abbrev pub Heeds : Log R → Log R → Notice → Type 0
+  Heeds old new Asked = ⊤
   Heeds old new (Known conn) = GoesOn old new (introduced conn old.course) (Some Joined)
   Heeds old new (Woke conn) = GoesOn old new (woken old.course) (takeover old.course.stage conn)
 

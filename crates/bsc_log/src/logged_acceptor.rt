@@ -85,6 +85,8 @@ impl<L, R: Clock + Wait + Copy, A: Acceptor<L>> Acceptor<LoggedLink<L, R>>
 
     ghost waits = { λ a. A.waits a.acceptor };
 
+    ghost stops = { λ a. A.stops a.acceptor };
+
     fn bind(&mut self, port: u16, owner: Vmac) -> Result<(), Failed> {
         self.acceptor.bind(port, owner)
     }
@@ -97,5 +99,9 @@ impl<L, R: Clock + Wait + Copy, A: Acceptor<L>> Acceptor<LoggedLink<L, R>>
         let answer = self.acceptor.next(alloc, wait_ms);
         look(&self.logging, brings_link(&answer));
         covered(&mut self.logging, answer)
+    }
+
+    fn wake_all(&mut self, at: u64) {
+        self.acceptor.wake_all(at);
     }
 }

@@ -60,6 +60,8 @@ impl<L, A: Acceptor<L>> Acceptor<L> for NotedAcceptor<A> {
 
     ghost waits = { λ a. A.waits a.acceptor };
 
+    ghost stops = { λ a. A.stops a.acceptor };
+
     fn bind(&mut self, port: u16, owner: Vmac) -> Result<(), Failed> {
         let answer = self.acceptor.bind(port, owner);
         self.note = DoorNote {
@@ -71,5 +73,9 @@ impl<L, A: Acceptor<L>> Acceptor<L> for NotedAcceptor<A> {
 
     fn next(&mut self, alloc: Global, wait_ms: u32) -> Result<Arrived<L>, LinkFault> {
         self.acceptor.next(alloc, wait_ms)
+    }
+
+    fn wake_all(&mut self, at: u64) {
+        self.acceptor.wake_all(at);
     }
 }

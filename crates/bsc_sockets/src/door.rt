@@ -1,5 +1,5 @@
 //! The real acceptor, and what an operator is told of it.
-ghost use Rattle.std.specs.Prelude.{◌≡◌, ◌≤◌, true, ◌&&◌, [], None, Some};
+ghost use Rattle.std.specs.Prelude.{◌≡◌, ◌≤◌, true, ◌&&◌, [], None, Some, IfOk};
 ghost use Rattle.std.specs.List.{list_all};
 ghost use Rattle.bsc_edge.specs.Told.{arrived_in, is_untold};
 
@@ -24,8 +24,8 @@ use std::time::Clock;
 const PLACES: usize = 256;
 
 /// A gate that is made where it is bound, and tells on standard error what is behind it; with a log, where it has somewhere to write
-/// one and the environment asks for it. It tells contracts to which port it is bound, how long it was asked to wait, and which links
-/// came.
+/// one and the environment asks for it. It tells contracts to which port it is bound, how long it was asked to wait, which links
+/// came, and with which Stops it woke all of them.
 #[derive(Drop)]
 pub struct Door<R: Clock + Net + Wait + Eprint + Copy + Drop> {
     rt: R,
@@ -40,6 +40,7 @@ pub struct Door<R: Clock + Net + Wait + Eprint + Copy + Drop> {
     bound: Option<u16>,
     waits: Past<u32>,
     came: Past<RealLink<R>>,
+    stops: Past<u64>,
     // Nothing was said on a link that came, when it came.
     ghost came_fresh: { list_all (λ l. is_untold (Some l.link.value.talk.items) && is_untold (Some l.link.value.notices.items)) came.items ≡ true },
 }
@@ -49,6 +50,7 @@ impl<R: Clock + Net + Wait + Eprint + Copy + Drop> Door<R> {
         ensures bound { result.bound ≡ None }
         ensures waits { result.waits.items ≡ [] }
         ensures came { result.came.items ≡ [] }
+        ensures stops { result.stops.items ≡ [] }
     {
         Door {
             rt,
@@ -62,6 +64,7 @@ impl<R: Clock + Net + Wait + Eprint + Copy + Drop> Door<R> {
             bound: None,
             waits: Past::new(),
             came: Past::new(),
+            stops: Past::new(),
         }
     }
 
@@ -78,6 +81,7 @@ impl<R: Clock + Net + Wait + Eprint + Copy + Drop> Door<R> {
         ensures bound { result.bound ≡ self.bound }
         ensures waits { result.waits ≡ self.waits }
         ensures came { result.came ≡ self.came }
+        ensures stops { result.stops ≡ self.stops }
     {
         let mut door = self;
         door.stderr = Some(stderr);
@@ -102,7 +106,10 @@ fn logging_at<R: Env + Copy>(
 fn sharing<R: Clock + Net + Wait + RandomSource + Copy + Drop>(
     gate: Gate<R>,
     shared: &Shared,
-) -> io::Result<Gate<R>> {
+) -> io::Result<Gate<R>>
+    ensures kind { IfOk result (λ g. g.kind ≡ gate.kind) }
+    ensures bound { IfOk result (λ g. g.bound ≡ gate.bound) }
+{
     let Ok(lingering) = Arc::try_clone(&shared.lingering) else {
         return Err(io::Error::from(io::ErrorKind::OutOfMemory));
     };
@@ -124,7 +131,10 @@ fn open<R: Clock + Net + Wait + RandomSource + Copy + Drop>(
     port: u16,
     owner: Vmac,
     shared: &Shared,
-) -> io::Result<Gate<R>> {
+) -> io::Result<Gate<R>>
+    ensures kind { IfOk result (λ g. g.kind ≡ kind) }
+    ensures bound { IfOk result (λ g. g.bound ≡ Some port) }
+{
     let Ok(bells) = Bells::new(alloc) else {
         return Err(io::Error::from(io::ErrorKind::OutOfMemory));
     };
@@ -180,6 +190,8 @@ impl<R: Clock + Net + Wait + Eprint + Env + RandomSource + Copy + Drop> Acceptor
 
     ghost waits = { λ d. Some d.waits.items };
 
+    ghost stops = { λ d. Some d.stops.items };
+
     // Nothing was said on a link that comes.
     ghost fresh = { λ l. is_untold (⟦<RealLink<R> as Link>⟧.talk l) && is_untold (⟦<RealLink<R> as Link>⟧.notices l) };
 
@@ -190,8 +202,8 @@ impl<R: Clock + Net + Wait + Eprint + Env + RandomSource + Copy + Drop> Acceptor
             Ok(gate) => {
                 tell_open(&self.rt, self.kind, port, owner);
                 let logging = logging_at(self.rt, self.stderr, self.alloc, self.kind);
+                self.bound = gate.port();
                 self.gate = Some(LoggedAcceptor::new(gate, logging));
-                self.bound = Some(port);
                 Ok(())
             }
             Err(_) => {
@@ -214,5 +226,12 @@ impl<R: Clock + Net + Wait + Eprint + Env + RandomSource + Copy + Drop> Acceptor
             _ => {}
         }
         answer
+    }
+
+    fn wake_all(&mut self, at: u64) {
+        self.stops.add(&at);
+        if let Some(gate) = &mut self.gate {
+            gate.wake_all(at);
+        }
     }
 }

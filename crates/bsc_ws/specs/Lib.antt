@@ -3,3 +3,4 @@ pub mod Receiving
 pub mod Sending
 pub mod Protocols
 pub mod Targets
+pub mod Handshakes

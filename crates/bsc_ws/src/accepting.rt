@@ -1,89 +1,140 @@
 //! The server's handshake.
 ghost use Rattle.std.specs.Prelude.{◌≡◌, IfOk};
+ghost use Rattle.bsc_ws.specs.Handshakes.{IfDone, IfMore, kind_of};
 ghost use Rattle.bsc_ws.specs.Limits.{HasOurLimits};
+ghost use Rattle.tungstenite.specs.Heads.{Heard};
 ghost use Rattle.tungstenite.specs.Socket.{IsFresh};
 ghost use Rattle.websocket.specs.declared.protocol.config.Role.TheVariants as Role;
 
 use crate::bounds::limits;
+use crate::handshake::{Handshake, Step};
 use crate::head::Head;
+use crate::kinds::OfKind;
 use crate::protocol::Takes;
+use crate::rounds::{Mid, Rounds};
 use crate::stream_link::StreamLink;
 use bsc_edge::{Kind, LinkFault, Patience};
 use std::alloc::Global;
 use std::io::{Read, Write};
-use tungstenite::handshake::server::{ServerHandshake, start};
-use tungstenite::handshake::{HandshakeError, MidHandshake};
+use std::marker::PhantomData;
+use tungstenite::handshake::HandshakeError;
+use tungstenite::handshake::server::start;
 use tungstenite::{Error, MaskKeys, Role, WebSocket};
 
 /// The greatest head that a server takes, in octets.
 const GREATEST_HEAD: usize = 16_384;
 
-/// A server's handshake that isn't done.
-#[derive(Drop)]
-pub struct Handshake<T: Read + Write + Drop> {
-    rounds: MidHandshake<ServerHandshake<Head<T>, Takes>>,
-}
-
-/// What going on with a handshake comes to.
-#[derive(Drop)]
-pub enum Step<T: Read + Write + Drop> {
-    /// The stream would block.
-    More(Handshake<T>),
-    /// It is done, and this is its stream.
-    Done(T),
-    /// It failed: no head of ours, another sub-protocol, or the stream ended.
-    Refused,
-    /// There was no memory.
-    NoMemory,
-}
-
 /// The handshake of a server that takes links of this kind, of which nothing is done.
-pub fn begin<T: Read + Write + Drop>(alloc: Global, stream: T, kind: Kind) -> Handshake<T> {
-    Handshake {
-        rounds: start(
+pub fn begin<T: Read + Write + Drop>(alloc: Global, stream: T, kind: Kind) -> Handshake<T>
+    ensures { kind_of result.rounds ≡ kind }
+{
+    match kind {
+        Kind::Hub => Handshake {
+            rounds: Rounds::Hub(first(alloc, stream)),
+        },
+        Kind::Direct => Handshake {
+            rounds: Rounds::Direct(first(alloc, stream)),
+        },
+    }
+}
+
+/// The handshake of a server that takes links of the kind `P`.
+fn first<T: Read + Write + Drop, P: OfKind + Drop>(alloc: Global, stream: T) -> Mid<T, P> {
+    start(
+        alloc,
+        Head::new(stream, GREATEST_HEAD),
+        Takes {
             alloc,
-            Head::new(stream, GREATEST_HEAD),
-            Takes { alloc, kind },
-            Some(limits()),
-        ),
+            of: PhantomData,
+        },
+        Some(limits()),
+    )
+}
+
+/// Goes on with a handshake: its stream where it is done, and else what is left to do.
+fn next<T: Read + Write + Drop, P: OfKind + Drop>(
+    rounds: Mid<T, P>,
+) -> Result<Result<T, Mid<T, P>>, LinkFault>
+    // Where it is done, a head was taken that asks for an upgrade with a valid key (RFC 6455, section 4.2.1).
+    ensures { IfOk result (λ r. IfOk r (λ _. Heard)) }
+{
+    match rounds.handshake() {
+        // No octet is lost: a head with octets behind it is refused.
+        Ok(socket) => Ok(Ok(socket.into_inner().into_inner())),
+        Err(HandshakeError::Interrupted(rounds)) => Ok(Err(rounds)),
+        Err(HandshakeError::Failure(Error::OutOfMemory)) => Err(LinkFault::NoMemory),
+        Err(HandshakeError::Failure(_)) => Err(LinkFault::Failed),
+    }
+}
+
+/// What a handshake comes to that wasn't gone on with for this.
+fn failed<T: Read + Write + Drop>(fault: LinkFault) -> Step<T>
+    ensures more { IfMore result (λ _. ⊥) }
+    ensures done { IfDone result (λ _. ⊥) }
+{
+    match fault {
+        LinkFault::NoMemory => Step::NoMemory,
+        LinkFault::Failed => Step::Refused,
     }
 }
 
 impl<T: Read + Write + Drop> Handshake<T> {
     /// The stream.
     pub fn stream(&mut self) -> &mut T {
-        self.rounds.get_mut().stream()
+        match &mut self.rounds {
+            Rounds::Hub(rounds) => rounds.get_mut().stream(),
+            Rounds::Direct(rounds) => rounds.get_mut().stream(),
+        }
     }
 
     /// Goes on until it is done or the stream would block.
-    pub fn go_on(self) -> Step<T> {
+    pub fn go_on(self) -> Step<T>
+        // It takes links of the kind that it was begun for, however often it goes on.
+        ensures more { IfMore result (λ h. kind_of h.rounds ≡ kind_of self.rounds) }
+        ensures kind { IfDone result (λ kind. kind ≡ kind_of self.rounds) }
+        // A link was asked for: a head was taken that asks for an upgrade with a valid key.
+        ensures heard { IfDone result (λ _. Heard) }
+    {
         let Handshake { rounds } = self;
-        match rounds.handshake() {
-            // No octet is lost: a head with octets behind it is refused.
-            Ok(socket) => Step::Done(socket.into_inner().into_inner()),
-            Err(HandshakeError::Interrupted(rounds)) => Step::More(Handshake { rounds }),
-            Err(HandshakeError::Failure(Error::OutOfMemory)) => Step::NoMemory,
-            Err(HandshakeError::Failure(_)) => Step::Refused,
+        match rounds {
+            Rounds::Hub(rounds) => match next(rounds) {
+                Ok(Ok(stream)) => Step::Done(stream, Kind::Hub),
+                Ok(Err(rounds)) => Step::More(Handshake {
+                    rounds: Rounds::Hub(rounds),
+                }),
+                Err(fault) => failed(fault),
+            },
+            Rounds::Direct(rounds) => match next(rounds) {
+                Ok(Ok(stream)) => Step::Done(stream, Kind::Direct),
+                Ok(Err(rounds)) => Step::More(Handshake {
+                    rounds: Rounds::Direct(rounds),
+                }),
+                Err(fault) => failed(fault),
+            },
         }
     }
 }
 
-/// The server's link over a stream whose handshake is done. It draws no keys.
+/// The server's link of this kind over a stream whose handshake is done. It draws no keys. Nothing but a handshake that is done
+/// shows that a head was taken.
 pub fn settle<T: Read + Write + Drop, W: Patience + Drop, K: MaskKeys + Drop>(
     alloc: Global,
     stream: T,
     wait: W,
     keys: K,
+    kind: Kind,
 ) -> StreamLink<T, W, K>
+    requires { Heard }
     ensures fresh { IsFresh result.socket stream Role.Server }
     ensures limits { HasOurLimits result.socket.conn.config.max_message_size result.socket.conn.config.max_frame_size
         result.socket.conn.config.accept_unmasked_frames }
     ensures wait { result.wait ≡ wait }
+    ensures kind { result.kind ≡ kind }
     ensures faults { result.faults ≡ 0 }
     ensures quiets { result.quiets ≡ 0 }
 {
     let socket = WebSocket::from_raw_socket(alloc, stream, keys, Role::Server, Some(limits()));
-    StreamLink::over(socket, wait)
+    StreamLink::over(socket, wait, kind)
 }
 
 /// The link of the peer that speaks first on this stream, whose reads wait. It takes the sub-protocol of its kind alone,
@@ -95,6 +146,9 @@ pub fn accept<T: Read + Write + Drop, W: Patience + Drop, K: MaskKeys + Drop>(
     keys: K,
     kind: Kind,
 ) -> Result<StreamLink<T, W, K>, LinkFault>
+    // A link was asked for: a head was taken that asks for an upgrade with a valid key.
+    ensures heard { IfOk result (λ _. Heard) }
+    ensures kind { IfOk result (λ l. l.kind ≡ kind) }
     ensures fresh { IfOk result (λ l. IsFresh l.socket l.socket.stream Role.Server) }
     ensures limits { IfOk result (λ l. HasOurLimits l.socket.conn.config.max_message_size l.socket.conn.config.max_frame_size
         l.socket.conn.config.accept_unmasked_frames) }
@@ -103,7 +157,7 @@ pub fn accept<T: Read + Write + Drop, W: Patience + Drop, K: MaskKeys + Drop>(
     ensures quiets { IfOk result (λ l. l.quiets ≡ 0) }
 {
     match begin(alloc, stream, kind).go_on() {
-        Step::Done(stream) => Ok(settle(alloc, stream, wait, keys)),
+        Step::Done(stream, kind) => Ok(settle(alloc, stream, wait, keys, kind)),
         Step::NoMemory => Err(LinkFault::NoMemory),
         Step::More(_) => Err(LinkFault::Failed),
         Step::Refused => Err(LinkFault::Failed),

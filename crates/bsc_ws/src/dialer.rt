@@ -1,11 +1,12 @@
 //! The dialer of links over streams.
-ghost use Rattle.std.specs.Prelude.{◌≡◌, ◌≤◌, [], ◌∷◌, None, Err, IsErr};
+ghost use Rattle.std.specs.Prelude.{◌≡◌, ◌≤◌, ◌⊎◌, ℕ, List, [], ◌∷◌, None, Err, IfOk, IsErr};
 ghost use Rattle.std.proofs.Common.{refl};
 ghost use Rattle.bsc_edge.specs.Dialling.{dialled, Takes};
 ghost use Rattle.bsc_edge.specs.Told.{Grows};
 ghost use Rattle.bsc_edge.specs.declared.fault.LinkFault.{LinkFault};
 ghost use Rattle.bsc_outside.specs.Faults.{HasRisen};
-ghost use Rattle.bsc_ws.specs.Targets.{IsDialable};
+ghost use Rattle.bsc_ws.specs.Targets.{IsDialable, IsOpenedFor};
+ghost use Rattle.tungstenite.specs.Heads.{HeardAnswer};
 
 use crate::dialling::dial;
 use crate::opener::Opener;
@@ -43,6 +44,10 @@ fn reach<T: Read + Write + Drop, W: Patience + Drop, K: MaskKeys + Drop, O: Open
 ) -> Result<StreamLink<T, W, K>, LinkFault>
     ensures refused { ¬ (IsDialable uri.now) → IsErr result }
     ensures untouched { ¬ (IsDialable uri.now) → opener.new ≡ opener.old }
+    ensures opened { (opener.new ≡ opener.old) ⊎ IsOpenedFor uri.now (O.opened opener.old) (O.opened opener.new) }
+    ensures reached { IfOk result (λ _. IsOpenedFor uri.now (O.opened opener.old) (O.opened opener.new)) }
+    ensures answered { IfOk result (λ _. (key : List ℕ) × HeardAnswer key) }
+    ensures kind { IfOk result (λ l. l.kind ≡ kind) }
 {
     let Ok(text) = str::from_utf8(uri) else {
         return Err(LinkFault::Failed);
@@ -72,6 +77,12 @@ impl<T: Read + Write + Drop, W: Patience + Drop, K: MaskKeys + Drop, O: Opener<T
         // A URI that names nobody who is dialled fails before anything is opened.
         ensures refused { ¬ (IsDialable uri.now) → IsErr result }
         ensures untouched { ¬ (IsDialable uri.now) → self.new.opener ≡ self.old.opener }
+        // Else a stream is opened to the address that the URI names, and to no other; and where a link comes, it was.
+        ensures opened { (self.new.opener ≡ self.old.opener) ⊎ IsOpenedFor uri.now (O.opened self.old.opener) (O.opened self.new.opener) }
+        ensures reached { IfOk result (λ _. IsOpenedFor uri.now (O.opened self.old.opener) (O.opened self.new.opener)) }
+        // A link that comes was answered, and is of the kind that was asked for.
+        ensures answered { IfOk result (λ _. (key : List ℕ) × HeardAnswer key) }
+        ensures kind { IfOk result (λ l. l.kind ≡ kind) }
         ensures later { self.old.faults ≤ self.new.faults }
         ensures failed { result ≡ Err LinkFault.Failed → HasRisen self.old.faults self.new.faults }
         ensures told { Grows None None (dialled uri.now kind result ∷ []) }

@@ -1,8 +1,10 @@
 //! The client's handshake.
-ghost use Rattle.std.specs.Prelude.{◌≡◌, IfOk};
+ghost use Rattle.std.specs.Prelude.{◌≡◌, ℕ, List, IfOk};
 ghost use Rattle.bsc_ws.specs.Limits.{HasOurLimits};
 ghost use Rattle.bsc_ws.specs.Protocols.{NamesOnly};
 ghost use Rattle.http.specs.Request.{head_of};
+ghost use Rattle.http_uri.specs.Uri.{Spells};
+ghost use Rattle.tungstenite.specs.Heads.{HeardAnswer};
 ghost use Rattle.websocket.specs.declared.protocol.config.Role.TheVariants as Role;
 
 use crate::bounds::limits;
@@ -10,21 +12,35 @@ use crate::failure::fault_of;
 use crate::protocol::{header, value_of};
 use crate::stream_link::StreamLink;
 use bsc_edge::{Kind, LinkFault, Patience};
-use http::Request;
+use http::uri::UriError;
+use http::{Request, Uri};
 use std::alloc::Global;
 use std::io::{Read, Write};
 use tungstenite::MaskKeys;
 use tungstenite::handshake::HandshakeError;
-use tungstenite::handshake::client::{request_of, start};
+use tungstenite::handshake::client::start;
 
-/// The request that offers the sub-protocol of this kind.
-fn offer(alloc: Global, uri: &str, kind: Kind) -> Result<Request<()>, LinkFault>
-    ensures { IfOk result (λ r. NamesOnly (head_of r).headers kind) }
+/// The request to what this URI names.
+fn request_to(alloc: Global, uri: &str) -> Result<Request<()>, LinkFault>
+    ensures { IfOk result (λ r. Spells uri.now (head_of r).uri) }
 {
-    let mut request = match request_of(alloc, uri) {
-        Ok(request) => request,
-        Err(error) => return Err(fault_of(error)),
-    };
+    match Uri::from_str(alloc, uri) {
+        Ok(uri) => {
+            let mut request = Request::new(alloc, ());
+            *request.uri_mut() = uri;
+            Ok(request)
+        }
+        Err(UriError::OutOfMemory) => Err(LinkFault::NoMemory),
+        Err(_) => Err(LinkFault::Failed),
+    }
+}
+
+/// The request to what this URI names that offers the sub-protocol of this kind.
+fn offer(alloc: Global, uri: &str, kind: Kind) -> Result<Request<()>, LinkFault>
+    ensures named { IfOk result (λ r. NamesOnly (head_of r).headers kind) }
+    ensures uri { IfOk result (λ r. Spells uri.now (head_of r).uri) }
+{
+    let mut request = request_to(alloc, uri)?;
     match request.headers_mut().insert(header(), value_of(kind)) {
         Ok(_) => Ok(request),
         Err(_) => Err(LinkFault::NoMemory),
@@ -40,6 +56,38 @@ fn nonce_of<K: MaskKeys>(keys: &mut K) -> [u8; 16] {
     nonce
 }
 
+/// The link of this kind over a stream, by a request to what this URI names that offers its sub-protocol alone.
+fn shake<T: Read + Write + Drop, W: Patience + Drop, K: MaskKeys + Drop>(
+    alloc: Global,
+    nonce: [u8; 16],
+    request: Request<()>,
+    stream: T,
+    wait: W,
+    keys: K,
+    _uri: &str,
+    kind: Kind,
+) -> Result<StreamLink<T, W, K>, LinkFault>
+    requires named { NamesOnly (head_of request).headers kind }
+    requires uri { Spells _uri.now (head_of request).uri }
+    ensures answered { IfOk result (λ _. (key : List ℕ) × HeardAnswer key) }
+    ensures kind { IfOk result (λ l. l.kind ≡ kind) }
+    ensures role { IfOk result (λ l. l.socket.conn.role ≡ Role.Client) }
+    ensures limits { IfOk result (λ l. HasOurLimits l.socket.conn.config.max_message_size l.socket.conn.config.max_frame_size
+        l.socket.conn.config.accept_unmasked_frames) }
+    ensures wait { IfOk result (λ l. l.wait ≡ wait) }
+    ensures faults { IfOk result (λ l. l.faults ≡ 0) }
+    ensures quiets { IfOk result (λ l. l.quiets ≡ 0) }
+{
+    match start(alloc, nonce, keys, request, stream, Some(limits())) {
+        Ok(rounds) => match rounds.handshake() {
+            Ok((socket, _response)) => Ok(StreamLink::over(socket, wait, kind)),
+            Err(HandshakeError::Failure(error)) => Err(fault_of(error)),
+            Err(HandshakeError::Interrupted(_)) => Err(LinkFault::Failed),
+        },
+        Err(error) => Err(fault_of(error)),
+    }
+}
+
 /// The link to the peer at the other end of this stream, whose reads wait. It offers the sub-protocol of its kind, and
 /// refuses an answer without it. Fails where the stream would block once.
 pub fn dial<T: Read + Write + Drop, W: Patience + Drop, K: MaskKeys + Drop>(
@@ -50,6 +98,9 @@ pub fn dial<T: Read + Write + Drop, W: Patience + Drop, K: MaskKeys + Drop>(
     uri: &str,
     kind: Kind,
 ) -> Result<StreamLink<T, W, K>, LinkFault>
+    // The peer answered: a head came that accepts a request with some key (RFC 6455, section 4.1).
+    ensures answered { IfOk result (λ _. (key : List ℕ) × HeardAnswer key) }
+    ensures kind { IfOk result (λ l. l.kind ≡ kind) }
     ensures role { IfOk result (λ l. l.socket.conn.role ≡ Role.Client) }
     ensures limits { IfOk result (λ l. HasOurLimits l.socket.conn.config.max_message_size l.socket.conn.config.max_frame_size
         l.socket.conn.config.accept_unmasked_frames) }
@@ -60,12 +111,5 @@ pub fn dial<T: Read + Write + Drop, W: Patience + Drop, K: MaskKeys + Drop>(
     let mut keys = keys;
     let nonce = nonce_of(&mut keys);
     let request = offer(alloc, uri, kind)?;
-    match start(alloc, nonce, keys, request, stream, Some(limits())) {
-        Ok(rounds) => match rounds.handshake() {
-            Ok((socket, _response)) => Ok(StreamLink::over(socket, wait)),
-            Err(HandshakeError::Failure(error)) => Err(fault_of(error)),
-            Err(HandshakeError::Interrupted(_)) => Err(LinkFault::Failed),
-        },
-        Err(error) => Err(fault_of(error)),
-    }
+    shake(alloc, nonce, request, stream, wait, keys, uri, kind)
 }

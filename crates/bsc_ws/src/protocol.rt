@@ -4,9 +4,11 @@ ghost use Rattle.bsc_ws.specs.Protocols.{protocol, Offers, AsksFor, NamesOnly};
 ghost use Rattle.http.specs.Response.{head_of};
 ghost use Rattle.http_header.specs.FieldValue.{plain_value};
 
+use crate::kinds::OfKind;
 use bsc_edge::Kind;
 use http::{HeaderName, HeaderValue, Request, Response, StatusCode};
 use std::alloc::Global;
+use std::marker::PhantomData;
 use tungstenite::Callback;
 use tungstenite::handshake::server::ErrorResponse;
 
@@ -79,31 +81,46 @@ fn asks_for(request: &Request<()>, kind: Kind) -> bool
     false
 }
 
-/// Takes a request that offers the sub-protocol of this kind, and names that in its answer; refuses others with 400.
-#[derive(Drop)]
-pub struct Takes {
-    pub alloc: Global,
-    pub kind: Kind,
+/// What is answered to a request where links of this kind are taken: an answer that names their sub-protocol where the request
+/// offers that, and else a refusal with 400.
+fn answered(
+    alloc: Global,
+    kind: Kind,
+    request: &Request<()>,
+    response: Response<()>,
+) -> Result<Response<()>, ErrorResponse>
+    ensures taken { IsOk result → AsksFor request.now kind }
+    ensures named { IfOk result (λ r. NamesOnly (head_of r).headers kind) }
+    ensures refused { IfErr result (λ r. (head_of r).status ≡ 400) }
+{
+    let mut response = response;
+    if asks_for(request, kind) {
+        if let Ok(_) = response.headers_mut().insert(header(), value_of(kind)) {
+            return Ok(response);
+        }
+    }
+    let mut refused = Response::new(alloc, None);
+    *refused.status_mut() = StatusCode::BAD_REQUEST;
+    Err(refused)
 }
 
-impl Callback for Takes {
+/// Takes a request that offers the sub-protocol of the kind of links `P`, and names that in its answer; refuses others with 400.
+#[derive(Drop)]
+pub struct Takes<P> {
+    pub alloc: Global,
+    pub of: PhantomData<P>,
+}
+
+impl<P: OfKind> Callback for Takes<P> {
     fn on_request(
         self,
         request: &Request<()>,
         response: Response<()>,
     ) -> Result<Response<()>, ErrorResponse>
-        ensures taken { IsOk result → AsksFor request.now self.kind }
-        ensures named { IfOk result (λ r. NamesOnly (head_of r).headers self.kind) }
+        ensures taken { IsOk result → AsksFor request.now P.kind }
+        ensures named { IfOk result (λ r. NamesOnly (head_of r).headers P.kind) }
         ensures refused { IfErr result (λ r. (head_of r).status ≡ 400) }
     {
-        let mut response = response;
-        if asks_for(request, self.kind) {
-            if let Ok(_) = response.headers_mut().insert(header(), value_of(self.kind)) {
-                return Ok(response);
-            }
-        }
-        let mut refused = Response::new(self.alloc, None);
-        *refused.status_mut() = StatusCode::BAD_REQUEST;
-        Err(refused)
+        answered(self.alloc, P::kind(), request, response)
     }
 }

@@ -1,5 +1,5 @@
 //! Tests of streams over sockets that wait and are woken, `bsc_live`, over loopback; of links over WebSocket, `bsc_ws`, over
-//! streams in memory; of gates, `bsc_gate`, over loopback; and of a hub that is served to clients and to nodes there.
+//! streams in memory; and of gates, `bsc_gate`, over loopback.
 //!
 //! They stand in a crate of their own, since a crate's own tests have all of its functions proved a second time. `live` has
 //! the two ends of a connection that most tests of streams are made with, and what comes of a read.
@@ -13,8 +13,6 @@ mod holding;
 mod lingering;
 #[cfg(test)]
 mod live;
-#[cfg(test)]
-mod loopback;
 #[cfg(test)]
 mod telling;
 #[cfg(test)]

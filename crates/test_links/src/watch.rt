@@ -45,6 +45,61 @@ fn comes<R: Clock + Net + Wait + RandomSource + Copy + Drop>(
     None
 }
 
+/// Whether what came, wait by wait, is right, and how many microseconds it took: until all messages were there, where nothing came, and until the close.
+#[derive(Drop)]
+struct Scene {
+    is_right: bool,
+    heard: u64,
+    rested: u64,
+    closed: u64,
+}
+
+/// A peer arrives at this port. It sends three messages in one write, with the first octets of a fourth, then the rest of that,
+/// then nothing, and then a close.
+fn meet<R: Clock + Net + Wait + RandomSource + Copy + Drop>(
+    rt: R,
+    alloc: Global,
+    watcher: &mut Watcher<R>,
+    gate: &mut Gate<R>,
+    link: &mut Option<SocketLink<R>>,
+    port: u16,
+) -> Option<Scene> {
+    let begun = Moment::now(&rt).ok()?;
+    let at = SocketAddr::from((Ipv4Addr::LOCALHOST, port));
+    let mut far = TcpStream::connect(&rt, at).ok()?;
+    far.write_all(HANDSHAKE.as_bytes()).ok()?;
+    let arrived = comes(alloc, watcher, gate, link, 10_000);
+    far.write_all(b"\x82\x81\0\0\0\0a\x82\x81\0\0\0\0b\x82\x81\0\0\0\0c\x82\x81\0")
+        .ok()?;
+    let first = comes(alloc, watcher, gate, link, 10_000);
+    let second = comes(alloc, watcher, gate, link, 10_000);
+    let third = comes(alloc, watcher, gate, link, 10_000);
+    far.write_all(b"\0\0\0d").ok()?;
+    let fourth = comes(alloc, watcher, gate, link, 10_000);
+    let heard = Moment::now(&rt).ok()?;
+    let nothing = comes(alloc, watcher, gate, link, 50);
+    let rested = Moment::now(&rt).ok()?;
+    far.write_all(b"\x88\x80\0\0\0\0").ok()?;
+    let close = comes(alloc, watcher, gate, link, 10_000);
+    let closed = Moment::now(&rt).ok()?;
+    let came = [arrived, first, second, third, fourth, nothing, close];
+    let wanted = [
+        Some(b'A'),
+        Some(b'a'),
+        Some(b'b'),
+        Some(b'c'),
+        Some(b'd'),
+        None,
+        Some(b'C'),
+    ];
+    Some(Scene {
+        is_right: came == wanted,
+        heard: heard.left(begun),
+        rested: rested.left(heard),
+        closed: closed.left(rested),
+    })
+}
+
 /// Each wait of ten seconds ends long before its time: for who arrives, for messages of which three come in one write and one in
 /// pieces, and for a close. Where nothing comes, waits last their time.
 #[test]
@@ -60,35 +115,20 @@ fn a_wait_ends_when_something_comes(rt: HostRuntime) -> Result<(), Fail> {
         Some(address) => address.port(),
         None => 0,
     };
-    let begun = Moment::now(&rt)?;
-    let mut far = TcpStream::connect(&rt, SocketAddr::from((Ipv4Addr::LOCALHOST, port)))?;
-    far.write_all(HANDSHAKE.as_bytes())?;
-    assert_eq!(rt;
-        comes(alloc, &mut watcher, &mut gate, &mut link, 10_000),
-        Some(b'A')
-    );
-    far.write_all(b"\x82\x81\0\0\0\0a\x82\x81\0\0\0\0b\x82\x81\0\0\0\0c\x82\x81\0")?;
-    for wanted in b"abc".iter() {
-        assert_eq!(rt;
-            comes(alloc, &mut watcher, &mut gate, &mut link, 10_000),
-            Some(*wanted)
-        );
-    }
-    far.write_all(b"\0\0\0d")?;
-    assert_eq!(rt;
-        comes(alloc, &mut watcher, &mut gate, &mut link, 10_000),
-        Some(b'd')
-    );
-    let heard = Moment::now(&rt)?;
-    assert!(rt; heard.left(begun) < 9_000_000);
-    assert_eq!(rt; comes(alloc, &mut watcher, &mut gate, &mut link, 50), None);
-    let rested = Moment::now(&rt)?;
-    assert!(rt; 90_000 < rested.left(heard));
-    far.write_all(b"\x88\x80\0\0\0\0")?;
-    assert_eq!(rt;
-        comes(alloc, &mut watcher, &mut gate, &mut link, 10_000),
-        Some(b'C')
-    );
-    assert!(rt; Moment::now(&rt)?.left(rested) < 9_000_000);
+    let Some(
+        Scene {
+            is_right,
+            heard,
+            rested,
+            closed,
+        },
+    ) = meet(rt, alloc, &mut watcher, &mut gate, &mut link, port)
+    else {
+        panic!(rt; "the peer does all of it");
+    };
+    assert!(rt; is_right);
+    assert!(rt; heard < 9_000_000);
+    assert!(rt; 90_000 < rested);
+    assert!(rt; closed < 9_000_000);
     Ok(())
 }

@@ -1,7 +1,7 @@
 //! Links over streams in memory.
 mod handshakes;
 
-use bsc_edge::{Incoming, Link, LinkFault, MemPatience};
+use bsc_edge::{Incoming, Kind, Link, LinkFault, MemPatience};
 use bsc_ws::{StreamLink, limits};
 use std::alloc::{AllocError, Global};
 use std::cell::Cell;
@@ -82,7 +82,7 @@ fn link_of(
 ) -> StreamLink<Peer<'_>, MemPatience<'static>, Keys> {
     let keys = Keys([1, 2, 3, 4]);
     let socket = WebSocket::from_raw_socket(alloc, peer, keys, role, Some(limits()));
-    StreamLink::over(socket, MemPatience::new(alloc, &[]))
+    StreamLink::over(socket, MemPatience::new(alloc, &[]), Kind::Hub)
 }
 
 /// What a link answers in eight receives, or until it has closed or failed: the octets of messages, T for a text, C for Closed,

@@ -11,36 +11,56 @@ const REQUEST: &str = concat!(
     "Sec-WebSocket-Version: 13\r\nSec-WebSocket-Key: dGhlIHNhbXBsZSBub25jZQ==\r\n",
 );
 
-/// The fields of a request, so many octets of another field, and the status that is answered.
+/// The fields of a request, so many octets of another field, the kind of links that the server takes, and the status that is
+/// answered.
 struct Offer {
+    kind: Kind,
     fields: &'static str,
     padding: u64,
     status: &'static [u8],
 }
 
-const OFFERS: [Offer; 5] = [
+const OFFERS: [Offer; 7] = [
     Offer {
+        kind: Kind::Hub,
         fields: "Sec-WebSocket-Protocol: dc.bsc.bacnet.org, hub.bsc.bacnet.org\r\n",
         padding: 16_000,
         status: b"HTTP/1.1 101",
     },
     Offer {
+        kind: Kind::Hub,
         fields: "Sec-WebSocket-Protocol: x\r\nSec-WebSocket-Protocol: hub.bsc.bacnet.org\r\n",
         padding: 1,
         status: b"HTTP/1.1 101",
     },
     Offer {
+        kind: Kind::Hub,
         fields: "Sec-WebSocket-Protocol: dc.bsc.bacnet.org, HUB.bsc.bacnet.org\r\n",
         padding: 1,
         status: b"HTTP/1.1 400",
     },
     Offer {
+        kind: Kind::Hub,
         fields: "",
+        padding: 1,
+        status: b"HTTP/1.1 400",
+    },
+    // A node takes what a hub refuses, and refuses what a hub takes.
+    Offer {
+        kind: Kind::Direct,
+        fields: "Sec-WebSocket-Protocol: dc.bsc.bacnet.org\r\n",
+        padding: 1,
+        status: b"HTTP/1.1 101",
+    },
+    Offer {
+        kind: Kind::Direct,
+        fields: "Sec-WebSocket-Protocol: hub.bsc.bacnet.org\r\n",
         padding: 1,
         status: b"HTTP/1.1 400",
     },
     // A head that is too long isn't answered.
     Offer {
+        kind: Kind::Hub,
         fields: "Sec-WebSocket-Protocol: hub.bsc.bacnet.org\r\n",
         padding: 16_384,
         status: b"",
@@ -63,7 +83,7 @@ fn offers(rt: HostRuntime) -> Result<(), Fail> {
         let mut peer = peer_of(head.as_slice(), head.len(), offer.status, &wanting);
         peer.takes_more = !offer.status.is_empty();
         let wait = MemPatience::new(alloc, &[]);
-        let is_taken = accept(alloc, peer, wait, Keys([0; 4]), Kind::Hub).is_ok();
+        let is_taken = accept(alloc, peer, wait, Keys([0; 4]), offer.kind).is_ok();
         assert!(rt;
             is_taken == offer.status.ends_with(b"101") && wanting.get() == 0,
             "in row {at}"
