@@ -12,11 +12,11 @@ mod replies;
 mod texts;
 mod writing;
 
-pub use calls::{put_connect, put_forward, put_leave};
+pub use calls::{put_connect, put_forward, put_leave, put_looks};
 pub use denial::Denial;
 pub use denying::put_denial;
 pub use replies::{
-    put_counts, put_gone, put_joined, put_lists, put_not_current, put_refusal, put_reply,
+    put_counts, put_gone, put_joined, put_list, put_lists, put_not_current, put_refusal, put_reply,
 };
 pub use texts::{put_hex, put_number, put_numbered, put_then, put_words};
 pub use writing::{entry_line, put_entry};

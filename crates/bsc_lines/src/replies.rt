@@ -80,7 +80,7 @@ fn put_more(text: &mut Vec<u8>, numbers: &[u64]) -> Result<(), NoMemory>
 }
 
 /// Numbers with commas between.
-fn put_list(text: &mut Vec<u8>, numbers: &[u64]) -> Result<(), NoMemory>
+pub fn put_list(text: &mut Vec<u8>, numbers: &[u64]) -> Result<(), NoMemory>
     ensures { IfOk result (λ _. text.new.items ≡ text.old.items ++ list_words numbers.now) }
 {
     match numbers {

@@ -62,7 +62,7 @@ stop_answers h m q (Ok t) s = (
 stop_answers h m q (Err e) s = s.place
 
 -- the first place that passes stays it, where the list goes on
-place_on : (test : Entry → Bool) (i : ℕ) (xs ys : List Entry) (k : ℕ) → position_from test i xs ≡ Some k → position_from test i (xs ++ ys) ≡ Some k
+pub place_on : (test : Entry → Bool) (i : ℕ) (xs ys : List Entry) (k : ℕ) → position_from test i xs ≡ Some k → position_from test i (xs ++ ys) ≡ Some k
 place_on test i [] ys k e = absurd (let bad : None ≡ Some k = e in cc)
 place_on test i (x ∷ xs) ys k e = by (test x) (λ is. place_on test (i + 1) xs ys k is) e
   where

@@ -5,3 +5,4 @@ mod Taking
 mod Sessions
 mod Ending
 mod Alone
+mod Waking

@@ -14,6 +14,7 @@ ghost use Rattle.bsc_session.specs.Jobs.{Worked, policy_of};
 ghost use Rattle.bsc_serve.specs.Inner.{Stopped, halt_end, lost_or, stop_end, whole_end};
 ghost use Rattle.bsc_serve.specs.Serving.{Serving, stop_notes};
 ghost use Rattle.bsc_serve.specs.Terms.{all_terms};
+ghost use Rattle.bsc_serve.specs.Waking.{WakesAll, stop_place};
 
 use crate::accepting::accept_all;
 use crate::end::ServeEnd;
@@ -99,6 +100,16 @@ fn finish<R: Wait, N: Sink>(
     }
 }
 
+/// Where the Stop stands, whether this call made it or another did before.
+fn place_of(answer: &Result<Told<Counts>, AlreadyStopped>) -> u64
+    ensures { result ≡ stop_place answer.now }
+{
+    match answer {
+        Ok(told) => told.at,
+        Err(already) => already.at,
+    }
+}
+
 /// How serving ends that would end so, by why the Stop's line wasn't put, if it wasn't.
 fn lost_or(end: ServeEnd, lost: Option<LinkFault>) -> ServeEnd
     ensures { result ≡ lost_or end lost }
@@ -149,7 +160,8 @@ fn end_of(halt: Halt, lost: Option<LinkFault>) -> ServeEnd
 /// and the policy. When a session has ended it joins its pass to this one. Once all have come and all sessions have ended,
 /// it stops the hub, and puts the line of the Stop into the own journal. A link that gets no session is closed with 1001.
 /// Where the acceptor fails, a journal can't be begun or memory runs out, it stops the hub first, which ends the sessions,
-/// and then waits for them and joins their passes. Without a prefix and a policy sessions make no lines. Jobs that the spawner
+/// and then waits for them and joins their passes. Once the hub is stopped, the wait of each link that came ends, so that no
+/// session learns of the Stop only as its wait is over. Without a prefix and a policy sessions make no lines. Jobs that the spawner
 /// had out before are awaited at first.
 pub fn serve_on<
     R: Wait,
@@ -211,6 +223,9 @@ pub fn serve_on<
     // The acceptor stays bound to the port that it was bound to.
     ensures bound { Stays (A.bound parts.old.acceptor) (A.bound parts.new.acceptor) }
 
+    // Once the hub was stopped, all links that came were woken.
+    ensures woken { WakesAll pass.new (A.stops parts.new.acceptor) }
+
     // A fault of the acceptor is told only where its count rose.
     ensures failed { result ≡ ServeEnd.AcceptFault → HasRisen (A.faults parts.old.acceptor) (A.faults parts.new.acceptor) }
     ensures later { A.faults parts.old.acceptor ≤ A.faults parts.new.acceptor }
@@ -226,11 +241,13 @@ pub fn serve_on<
         Ok(unstarted) => {
             take_ended::<R, C, L, N, J, P>(served.rt, served.hub, pass, &mut parts.spawner, true);
             let stopped = finish(served.rt, served.alloc, served.hub, pass, own);
+            parts.acceptor.wake_all(place_of(&stopped.answer));
             done(unstarted, stopped)
         }
         Err(halt) => {
             let hub: &Hub = served.hub;
             let told = finish(served.rt, served.alloc, hub, pass, own);
+            parts.acceptor.wake_all(place_of(&told.answer));
             take_ended::<R, C, L, N, J, P>(served.rt, hub, pass, &mut parts.spawner, true);
             end_of(halt, told.lost)
         }

@@ -12,8 +12,8 @@ use Rattle.bsc_session.specs.declared.why.Why.TheVariants.{JournalFault, LinkFau
 use Rattle.bsc_session.specs.Causes.{HasExactCause}
 use Rattle.bsc_session.specs.Jobs.{WorkedTo, makes_lines, policy_of, terms_in}
 use Rattle.bsc_session.specs.Laws.{GrowsToFault}
-use Rattle.bsc_session.specs.Notices.{Notifies}
-use Rattle.bsc_session.specs.Serving.{ServesNoting, ServesUnrecorded, terms_of}
+use Rattle.bsc_session.specs.Serving.{terms_of}
+use Rattle.bsc_session.specs.Telling.{TellsNoting, TellsUnrecorded}
 use Rattle.bsc_session.specs.Worlds.{world}
 
 module _ {L C N : Type 0} (talk : L → Option (List Said)) (faults : L → ℕ) (notices : L → Option (List Notice)) (readings : C → Option (List ℕ)) (held : N → Option (List ℕ)) (unput : N → ℕ)
@@ -26,67 +26,65 @@ module _ {L C N : Type 0} (talk : L → Option (List Said)) (faults : L → ℕ)
 
   -- it makes lines
   pub noted_work : makes_lines job.is_recorded (policy_of job.policy) ≡ true
-      → ServesNoting (terms_of h job.pass job.limits job.turns p) (world h job.pass (talk job.link) (readings job.clock) (held job.journal))
-      (world h left.pass (talk link) (readings clock) (held journal)) left.ended
+      → TellsNoting (terms_of h job.pass job.limits job.turns p) (world h job.pass (talk job.link) (readings job.clock) (held job.journal))
+      (world h left.pass (talk link) (readings clock) (held journal)) left.ended (notices job.link) (notices link)
       → GrowsToFault (talk job.link) (talk link) → HasExactCause (terms_of h job.pass job.limits job.turns p) left.ended
       → (left.ended.why ≡ LinkFault → HasRisen (faults job.link) (faults link))
       → (left.ended.why ≡ JournalFault → HasRisen (unput job.journal) (unput journal)) → faults job.link ≤ faults link
-      → Notifies job.pass left.pass (notices job.link) (notices link)
       → WorkedTo talk faults notices readings held unput job left link clock journal
-  noted_work makes served ends caused failed unrecorded later woken =
-      let s : ServesNoting (terms_in job) (world (arc_value job.hub) job.pass (talk job.link) (readings job.clock) (held job.journal))
-      (world (arc_value job.hub) left.pass (talk link) (readings clock) (held journal)) left.ended =
-      subst (λ y. ServesNoting (terms_of y job.pass job.limits job.turns (policy_of job.policy)) (world y job.pass (talk job.link) (readings job.clock) (held job.journal))
-      (world y left.pass (talk link) (readings clock) (held journal)) left.ended) same
-      (subst (λ q. ServesNoting (terms_of h job.pass job.limits job.turns q) (world h job.pass (talk job.link) (readings job.clock) (held job.journal))
-      (world h left.pass (talk link) (readings clock) (held journal)) left.ended) guards served) in
+  noted_work makes told ends caused failed unrecorded later =
+      let s : TellsNoting (terms_in job) (world (arc_value job.hub) job.pass (talk job.link) (readings job.clock) (held job.journal))
+      (world (arc_value job.hub) left.pass (talk link) (readings clock) (held journal)) left.ended (notices job.link) (notices link) =
+      subst (λ y. TellsNoting (terms_of y job.pass job.limits job.turns (policy_of job.policy)) (world y job.pass (talk job.link) (readings job.clock) (held job.journal))
+      (world y left.pass (talk link) (readings clock) (held journal)) left.ended (notices job.link) (notices link)) same
+      (subst (λ q. TellsNoting (terms_of h job.pass job.limits job.turns q) (world h job.pass (talk job.link) (readings job.clock) (held job.journal))
+      (world h left.pass (talk link) (readings clock) (held journal)) left.ended (notices job.link) (notices link)) guards told) in
       record {
-        served = s.serves;
-        noted = λ e. (s.stand, s.records, s.rise);
+        served = s.0.serves;
+        noted = λ e. (s.0.stand, s.0.records, s.0.rise);
         unnoted = λ e. absurd (true≢false (sym makes ∙ e));
         ends = ends;
         caused = exactly caused;
         failed = failed;
         unrecorded = unrecorded;
         later = later;
-        woken = woken;
+        woken = s.1;
       }
 
   -- it makes none
   pub unnoted_work : makes_lines job.is_recorded (policy_of job.policy) ≡ false
-      → ServesUnrecorded (terms_of h job.pass job.limits job.turns p) (world h job.pass (talk job.link) (readings job.clock) None)
-      (world h left.pass (talk link) (readings clock) None) left.ended → journal ≡ job.journal
+      → TellsUnrecorded (terms_of h job.pass job.limits job.turns p) (world h job.pass (talk job.link) (readings job.clock) None)
+      (world h left.pass (talk link) (readings clock) None) left.ended (notices job.link) (notices link) → journal ≡ job.journal
       → GrowsToFault (talk job.link) (talk link) → HasExactCause (terms_of h job.pass job.limits job.turns p) left.ended
       → (left.ended.why ≡ LinkFault → HasRisen (faults job.link) (faults link))
       → (left.ended.why ≡ JournalFault → ⊥) → faults job.link ≤ faults link
-      → Notifies job.pass left.pass (notices job.link) (notices link)
       → WorkedTo talk faults notices readings held unput job left link clock journal
-  unnoted_work makes served kept ends caused failed unrecorded later woken =
-      let s : ServesUnrecorded (terms_in job) (world (arc_value job.hub) job.pass (talk job.link) (readings job.clock) None)
-      (world (arc_value job.hub) left.pass (talk link) (readings clock) None) left.ended =
-      subst (λ y. ServesUnrecorded (terms_of y job.pass job.limits job.turns (policy_of job.policy)) (world y job.pass (talk job.link) (readings job.clock) None)
-      (world y left.pass (talk link) (readings clock) None) left.ended) same
-      (subst (λ q. ServesUnrecorded (terms_of h job.pass job.limits job.turns q) (world h job.pass (talk job.link) (readings job.clock) None)
-      (world h left.pass (talk link) (readings clock) None) left.ended) guards served) in
+  unnoted_work makes told kept ends caused failed unrecorded later =
+      let s : TellsUnrecorded (terms_in job) (world (arc_value job.hub) job.pass (talk job.link) (readings job.clock) None)
+      (world (arc_value job.hub) left.pass (talk link) (readings clock) None) left.ended (notices job.link) (notices link) =
+      subst (λ y. TellsUnrecorded (terms_of y job.pass job.limits job.turns (policy_of job.policy)) (world y job.pass (talk job.link) (readings job.clock) None)
+      (world y left.pass (talk link) (readings clock) None) left.ended (notices job.link) (notices link)) same
+      (subst (λ q. TellsUnrecorded (terms_of h job.pass job.limits job.turns q) (world h job.pass (talk job.link) (readings job.clock) None)
+      (world h left.pass (talk link) (readings clock) None) left.ended (notices job.link) (notices link)) guards told) in
       record {
         served = record {
-          T = s.serves.T;
-          R = s.serves.R;
-          E = s.serves.E;
-          hub = s.serves.hub;
-          talk = s.serves.talk;
-          readings = s.serves.readings;
-          goes = s.serves.goes;
-          session = s.serves.session;
-          all = s.serves.all;
-          is_worn = s.serves.is_worn;
+          T = s.0.serves.T;
+          R = s.0.serves.R;
+          E = s.0.serves.E;
+          hub = s.0.serves.hub;
+          talk = s.0.serves.talk;
+          readings = s.0.serves.readings;
+          goes = s.0.serves.goes;
+          session = s.0.serves.session;
+          all = s.0.serves.all;
+          is_worn = s.0.serves.is_worn;
         };
         noted = λ e. absurd (true≢false (sym e ∙ makes));
-        unnoted = λ e. (s.unlost, kept);
+        unnoted = λ e. (s.0.unlost, kept);
         ends = ends;
         caused = exactly caused;
         failed = failed;
         unrecorded = λ e. absurd (unrecorded e);
         later = later;
-        woken = woken;
+        woken = s.1;
       }

@@ -1,9 +1,11 @@
 -- A turn is its opening, and then its hearing where the opening didn't stop the session.
-use Rattle.std.proofs.Common.{◌≡◌, ℕ, ◌+◌, ◌≤◌, ◌<◌, Bool, true, false, is_some, is_none, ◌&&◌, cond, List, zero, suc, refl, ap, sym, ◌∙◌, subst, append-nil, arith, Option, Some, None, Result, Ok, Err}
+use Rattle.std.proofs.Common.{◌≡◌, ℕ, ◌+◌, ◌≤◌, ◌<◌, Bool, true, false, is_some, is_none, ◌&&◌, cond, List, [], ◌∷◌, zero, suc, refl, ap, sym, ◌∙◌, subst, append-nil, arith, Option, Some, None, Result, Ok, Err}
 use Rattle.std.specs.Prelude.{length, nat_lt, if◌then◌else◌}
 use Rattle.bsc_history.specs.declared.ending.End.{End}
 use Rattle.bsc_history.specs.declared.reply.Reply.TheVariants.{Joined, Refused}
+use Rattle.std.proofs.lemmas.List.{append_cancel_left}
 use Rattle.bsc_turn.specs.declared.pass.Pass.{Pass}
+use Rattle.bsc_turn.specs.Passes.{own_list}
 use Rattle.bsc_hub.specs.declared.hub.Hub.{Hub}
 use Rattle.bsc_edge.specs.declared.said.Said.{Said}
 use Rattle.bsc_accept.specs.declared.step.Step.{Step}
@@ -17,23 +19,30 @@ use Rattle.bsc_session.specs.Answering.{answered, said_hearing, step_of, stands_
 use Rattle.bsc_edge.specs.declared.fault.LinkFault.{LinkFault}
 use Rattle.bsc_edge.specs.declared.incoming.Incoming.{Incoming}
 use Rattle.bsc_edge.specs.declared.incoming.Incoming.TheVariants.{Message}
-use Rattle.bsc_edge.proofs.Common.{grows_then}
+use Rattle.bsc_history.specs.declared.entry.Entry.{Entry}
+use Rattle.bsc_edge.specs.declared.notice.Notice.{Notice}
+use Rattle.bsc_edge.specs.declared.notice.Notice.TheVariants.{Asked}
+use Rattle.bsc_edge.specs.Told.{Grows}
+use Rattle.bsc_edge.proofs.Common.{grows_none, grows_then}
 use Rattle.bsc_session.specs.Judging.{heard_told}
 use Rattle.bsc_session.specs.CarryingOut.{is_more, stop_of}
 use Rattle.bsc_session.specs.Following.{Follows, HasStanding, Held, IsFollowed, IsMember, SessionRuns, empties_by}
 use Rattle.bsc_session.specs.Hearing.{Hears}
 use Rattle.bsc_session.specs.Opening.{Opens, SameMember}
 use Rattle.bsc_session.specs.MakingTurns.{Makes, Starts, lost_by}
+use Rattle.bsc_session.specs.Notices.{AsksOnce, notices_in, notices_of}
 use Rattle.bsc_session.specs.Puts.{puts}
 use Rattle.bsc_session.specs.Reading.{start_at, started, ticked}
 use Rattle.bsc_session.specs.Receiving.{Answer, replies, Hearing}
 use Rattle.bsc_session.specs.Standings.{Standing, Terms, is_connected}
 use Rattle.bsc_session.specs.Stops.{first_of}
 use Rattle.bsc_session.specs.Taking.{Opening, end_told, notes_opening, opened, put_first, stop_before, wait_by, wait_in}
-use Rattle.bsc_session.specs.Turns.{after, empties_in}
+use Rattle.bsc_session.specs.Telling.{MakesTold}
+use Rattle.bsc_session.specs.Turns.{after, empties_in, entries_in}
 use Rattle.bsc_session.specs.Moments.{moment, traces}
 use Rattle.bsc_session.proofs.HubCalls.{goes_nowhere}
 use Rattle.bsc_session.proofs.Lists.{grows_as}
+use Rattle.bsc_session.proofs.Notifying.{after_receive}
 use Rattle.bsc_session.proofs.Losing.{line_behind, line_opening, lost_before, lost_hearing, wrote_hearing, wrote_opening}
 
 pub member_same : (p : Pass) (m n : Option Member) → SameMember m n → IsMember p m → IsMember p n
@@ -69,6 +78,13 @@ makes_opening h v s now p a b old new pages pages' stop room held k = record {
   runs = λ going. cc;
 }
 
+-- and its link was told nothing
+pub tells_opening : (h : Hub) (v : Terms) (s : Standing) (now : ℕ) (p : Pass) (a b : At) (old new : Option (List Said)) (pages pages' : Option (List ℕ)) (stop : Stop) (n k : Option (List Notice)) → s.receives < v.turns → Held h v p a s
+    → Opens v s now a b (traces old pages) (traces new pages') (Err stop) → k ≡ n → MakesTold v s now h (moment p a old pages) (moment p b new pages') n k (Some stop)
+unfolding makes_opening
+tells_opening h v s now p a b old new pages pages' stop n k room held o same =
+    (makes_opening h v s now p a b old new pages pages' stop room held o, subst (λ (x : Option (List Notice)). Grows n x []) (sym same) (grows_none n))
+
 -- the opening goes on, and the session hears
 pub makes_hearing : (h : Hub) (v : Terms) (s : Standing) (now : ℕ) (p q : Pass) (a b c : At) (old mid new : Option (List Said)) (pages pages' pages'' : Option (List ℕ)) (stop : Option Stop) (backlog : Backlog) (wait : ℕ) → s.receives < v.turns
     → (k : Opens v s now a b (traces old pages) (traces mid pages') (Ok backlog)) → wait ≡ wait_by (is_more backlog) → Hears v (opened s k.opening) now wait h (moment p b mid pages') (moment q c new pages'') stop
@@ -94,6 +110,21 @@ makes_hearing h v s now p q a b c old mid new pages pages' pages'' stop backlog 
       held = l.held;
       runs = l.runs;
     }
+
+-- and its link was asked once, and then told what follows from the entries of that turn
+pub tells_hearing : (h : Hub) (v : Terms) (s : Standing) (now : ℕ) (p q : Pass) (a b c : At) (old mid new : Option (List Said)) (pages pages' pages'' : Option (List ℕ)) (stop : Option Stop) (backlog : Backlog) (wait : ℕ) (n k l : Option (List Notice))
+    → s.receives < v.turns → (o : Opens v s now a b (traces old pages) (traces mid pages') (Ok backlog)) → wait ≡ wait_by (is_more backlog)
+    → Hears v (opened s o.opening) now wait h (moment p b mid pages') (moment q c new pages'') stop → k ≡ n → AsksOnce p q k l
+    → MakesTold v s now h (moment p a old pages) (moment q c new pages'') n l stop
+unfolding makes_hearing
+tells_hearing h v s now p q a b c old mid new pages pages' pages'' stop backlog wait n k l room o waits hears same asks =
+    let m : Makes v s now h (moment p a old pages) (moment q c new pages'') stop = makes_hearing h v s now p q a b c old mid new pages pages' pages'' stop backlog wait room o waits hears in
+    let E : List Entry = entries_in v s m.turn in
+    let mine : asks.E ≡ E = append_cancel_left (own_list p) asks.E E (sym asks.own ∙ m.goes.own) in
+    let heard : is_some m.turn.hearing ≡ true = refl in
+    let told : Asked ∷ notices_of asks.E ≡ notices_in v s m.turn =
+    ap (λ (x : List Entry). Asked ∷ notices_of x) mine ∙ sym (after_receive v (opened s m.turn.opening) m.turn.opening.reading m.turn.hearing heard) in
+    (m, subst (λ (x : Option (List Notice)). Grows x l (notices_in v s m.turn)) same (subst (λ (x : List Notice). Grows k l x) told asks.told))
 
 -- ---- how many receives
 

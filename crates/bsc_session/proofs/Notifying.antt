@@ -1,19 +1,21 @@
 -- What the link is told follows from the entries that are made.
-use Rattle.std.proofs.Common.{◌≡◌, ℕ, List, [], ◌∷◌, ◌++◌, refl, ap, sym, ◌∙◌, append-nil, append_assoc, Option, Some, None}
-use Rattle.bsc_history.specs.declared.ending.End.{End}
+use Rattle.std.proofs.Common.{◌≡◌, ℕ, true, List, [], ◌∷◌, ◌++◌, refl, ap, sym, ◌∙◌, append-nil, append_assoc, Option, Some, None, is_some}
 use Rattle.bsc_history.specs.declared.entry.Entry.{Entry}
 use Rattle.bsc_turn.specs.declared.pass.Pass.{Pass}
 use Rattle.bsc_turn.specs.Passes.{own_list}
 use Rattle.bsc_hub.specs.declared.hub.Hub.{Hub}
 use Rattle.bsc_hub.specs.Passing.{Passed, Placed}
 use Rattle.bsc_edge.specs.declared.notice.Notice.{Notice}
+use Rattle.bsc_edge.specs.declared.notice.Notice.TheVariants.{Asked}
 use Rattle.bsc_edge.specs.Told.{Grows}
 use Rattle.bsc_edge.proofs.Common.{grows_none, grows_then}
-use Rattle.bsc_session.specs.Notices.{Notifies, notices_by, notices_of}
-use Rattle.bsc_session.specs.Talk.{leaving}
+use Rattle.bsc_session.specs.Notices.{AsksOnce, Notifies, notices_after, notices_by, notices_of}
+use Rattle.bsc_session.specs.Receiving.{Hearing}
+use Rattle.bsc_session.specs.Standings.{Standing, Terms}
+use Rattle.bsc_session.specs.Turns.{entries_after}
 use Rattle.bsc_session.proofs.HubCalls.{entry_made, goes_passed}
 
-notices_append : (E F : List Entry) → notices_of (E ++ F) ≡ notices_of E ++ notices_of F
+pub notices_append : (E F : List Entry) → notices_of (E ++ F) ≡ notices_of E ++ notices_of F
 notices_append [] F = refl
 notices_append (e ∷ E) F = ap (λ x. notices_by e.reply ++ x) (notices_append E F) ∙ sym (append_assoc (notices_by e.reply) (notices_of E) (notices_of F))
 
@@ -34,27 +36,15 @@ notifies_one h p q m n k l went told is = rw is (record {
   told = rw (append-nil (notices_by m.stamped.entry.reply)) told;
 })
 
-pub notifies_then : (p q r : Pass) (n k l : Option (List Notice)) → Notifies p q n k → Notifies q r k l → Notifies p r n l
-notifies_then p q r n k l a b = record {
-  E = a.E ++ b.E;
-  own = b.own ∙ ap (λ x. x ++ b.E) a.own ∙ append_assoc (own_list p) a.E b.E;
-  told = rw (notices_append a.E b.E) (grows_then n k l (notices_of a.E) (notices_of b.E) a.told b.told);
-}
+-- a receive was made, and then no call
+pub asks_nobody : (p : Pass) (n k : Option (List Notice)) → Grows n k (Asked ∷ []) → AsksOnce p p n k
+asks_nobody p n k asked = record { E = []; own = sym (append-nil (own_list p)); told = asked }
 
--- before and after it nobody is told
-pub notifies_between : (p q : Pass) (n k l m : Option (List Notice)) → k ≡ n → Notifies p q k l → m ≡ l → Notifies p q n m
-notifies_between p q n k l m before a behind = rw (sym before, behind) a
+-- a receive was made, and then these calls
+pub asks_then : (p q : Pass) (n k l : Option (List Notice)) → Grows n k (Asked ∷ []) → Notifies p q k l → AsksOnce p q n l
+asks_then p q n k l asked a = record { E = a.E; own = a.own; told = grows_then n k l (Asked ∷ []) (notices_of a.E) asked a.told }
 
-leaving_wakes_nobody : (caller : ℕ) (conn : Option ℕ) (taken empties : ℕ) (e : End) → notices_of (leaving caller conn taken empties e) ≡ []
-leaving_wakes_nobody caller None taken empties e = refl
-leaving_wakes_nobody caller (Some c) taken empties e = refl
-
--- then the session leaves
-pub notifies_left : (p q r : Pass) (n k l : Option (List Notice)) (caller : ℕ) (conn : Option ℕ) (taken empties : ℕ) (e : End)
-    → Notifies p q n k → l ≡ k → own_list r ≡ own_list q ++ leaving caller conn taken empties e → Notifies p r n l
-notifies_left p q r n k l caller conn taken empties e a is own =
-    notifies_then p q r n k l a (rw is (record {
-      E = leaving caller conn taken empties e;
-      own = own;
-      told = rw (leaving_wakes_nobody caller conn taken empties e) (grows_none k);
-    }))
+-- a turn with a receive is told of as one
+pub after_receive : (v : Terms) (s : Standing) (now : ℕ) (h : Option Hearing) → is_some h ≡ true → notices_after v s now h ≡ Asked ∷ notices_of (entries_after v s now h)
+after_receive v s now None some = cc
+after_receive v s now (Some h) some = refl

@@ -15,9 +15,9 @@ use Rattle.bsc_session.specs.declared.session_end.SessionEnd.{SessionEnd}
 use Rattle.bsc_session.specs.declared.why.Why.TheVariants.{JournalFault, LinkFault}
 use Rattle.bsc_session.specs.Causes.{HasExactCause}
 use Rattle.bsc_session.specs.Laws.{GrowsToFault}
-use Rattle.bsc_session.specs.Notices.{Notifies}
 use Rattle.bsc_session.specs.Serving.{AllStand, RiseWithin, Serves, terms_of}
 use Rattle.bsc_session.specs.Standings.{Terms}
+use Rattle.bsc_session.specs.Telling.{Tells}
 use Rattle.bsc_session.specs.Talk.{journal_of, lost_of}
 
 -- the policy that is shared, if one is
@@ -36,8 +36,8 @@ terms_in job = terms_of (arc_value job.hub) job.pass job.limits job.turns (polic
 -- A job was worked off, and this is left of it. Its hub, pass, link, clock, journal and policy, with its limits and turns, made
 -- one serving call: that left the link, the clock and the journal as these, which are let go, and the pass and its answer as
 -- they are left. Talk, readings and own list grew by those of a session, no call on the link followed one that failed, the
--- cause is exact, and a fault of the link or of the journal raised its count. The link was told whose it is and whom it wakes, as
--- the own entries say. Where the job makes lines, each own entry that it notes stands at its place in the history, at places that
+-- cause is exact, and a fault of the link or of the journal raised its count. The link was told whose it is and whom it wakes, each in
+-- its turn, as the entries of the session's turns say. Where the job makes lines, each own entry that it notes stands at its place in the history, at places that
 -- rise, all behind what its pass had seen, and what it notes is in the journal; else the journal is as it was, and no line was
 -- lost, as none was made.
 module _ {L C N : Type 0} (talk : L → Option (List Said)) (faults : L → ℕ) (notices : L → Option (List Notice)) (readings : C → Option (List ℕ)) (held : N → Option (List ℕ)) (unput : N → ℕ) where
@@ -57,7 +57,7 @@ module _ {L C N : Type 0} (talk : L → Option (List Said)) (faults : L → ℕ)
     pub failed : left.ended.why ≡ LinkFault → HasRisen (faults job.link) (faults link)
     pub unrecorded : left.ended.why ≡ JournalFault → HasRisen (unput job.journal) (unput journal)
     pub later : faults job.link ≤ faults link
-    pub woken : Notifies job.pass left.pass (notices job.link) (notices link)
+    pub woken : Tells served (notices job.link) (notices link)
 
   -- A job was worked off, and this is left of it, with what its link, its clock and its journal were at last.
   abbrev pub Worked : SessionJob L C N → SessionEnd L C N → Type 0

@@ -1,14 +1,20 @@
-use Rattle.std.proofs.Common.{inr, Some, Err, ap, refl, subst, sym, ◌∙◌}
+use Rattle.std.proofs.Common.{inr, ℕ, Some, Err, ap, refl, subst, sym, ◌∙◌}
 use Rattle.std.specs.Prelude.{option_map}
 use Rattle.std.specs.Arc.{arc_value}
+use Rattle.bsc_outside.specs.Faults.{HasRisen}
+use Rattle.bsc_turn.specs.Passes.{seen}
+use Rattle.bsc_turn.proofs.Beginnings.{starts_self}
 use Rattle.bsc_hub.specs.declared.hub.Hub.{Hub}
+use Rattle.bsc_edge.specs.Told.{Stays}
 use Rattle.bsc_session.specs.Jobs.{Worked, policy_of}
 use Rattle.bsc_serve.specs.declared.end.ServeEnd.{ServeEnd}
 use Rattle.bsc_serve.specs.Inner.{GoesOn, Stopped, TakesIn, world_of}
 use Rattle.bsc_serve.specs.Serving.{Serving}
 use Rattle.bsc_serve.specs.Terms.{all_terms}
+use Rattle.bsc_serve.specs.Waking.{LastIs, stop_place}
 use Rattle.bsc_serve.specs.Worlds.{ServeWorld, Stock, served_world}
 use Rattle.bsc_serve.proofs.Ending.{halt_failed, halt_lost, serves_after, serves_halted, serves_whole, whole_lost, whole_served}
+use Rattle.bsc_serve.proofs.Waking.{last_told, stands_at}
 use Rattle.bsc_serve.proofs.serving.serve_on.Goals as goal
 
 pub returns-in-Ok-clause-serving : goal.returns-in-Ok-clause-serving
@@ -35,10 +41,11 @@ returns-in-Ok-clause-serving g c =
     let taken = goes terms first beside (record { remaining = Some 0; unstarted = c.in-Ok.unstarted }) c.in-Ok.ensures.accepts in
     let stopped : Stopped h c.take_ended.new.pass c.finish-stopped.new.pass c.finish-stopped.result.answer =
     subst (λ (y : Hub). Stopped y c.take_ended.new.pass c.finish-stopped.new.pass c.finish-stopped.result.answer) c.deref-in-Ok.ensures c.finish-stopped.ensures.stopped in
-    subst (λ (e : ServeEnd). Serving W B T terms (served_world h own before) (served_world h own' after) e) (sym c.done.ensures)
+    rw (c.wake_all.ensures.left, c.wake_all.ensures.came, c.wake_all.ensures.waits, c.wake_all.ensures.quiets)
+    (subst (λ (e : ServeEnd). Serving W B T terms (served_world h own before) (served_world h own' after) e) (sym c.done.ensures)
     (serves_after W B T h terms before after none_out own own' _ c.await_all.ensures.jobs c.await_all.ensures.gave c.await_all.ensures.later
     (serves_whole W B T h terms first m c.finish-stopped.new.pass c.in-Ok.unstarted c.finish-stopped.result.answer c.finish-stopped.result.lost own own' c.accept_all.ensures.fits c.await_all.ensures.none taken
-    (c.take_ended.ensures.none refl) stopped c.finish-stopped.ensures.records c.finish-stopped.ensures.has_line))
+    (c.take_ended.ensures.none refl) stopped c.finish-stopped.ensures.records c.finish-stopped.ensures.has_line)))
 
 pub returns-in-Err-clause-serving : goal.returns-in-Err-clause-serving
 returns-in-Err-clause-serving g c =
@@ -63,10 +70,11 @@ returns-in-Err-clause-serving g c =
     subst (λ (y : Hub). Stopped y c.accept_all.new.pass c.finish-told.new.pass c.finish-told.result.answer) c.deref-hub.ensures c.finish-told.ensures.stopped in
     let ended : TakesIn W h c.finish-told.new.pass at_halt c.take_ended-in-Err.new.pass all_ended =
     subst (λ (y : Hub). TakesIn W y c.finish-told.new.pass at_halt c.take_ended-in-Err.new.pass all_ended) c.deref-hub.ensures c.take_ended-in-Err.ensures.takes_in in
-    subst (λ (e : ServeEnd). Serving W B T terms (served_world h own before) (served_world h own' after) e) (sym c.end_of.ensures)
+    rw (c.wake_all-in-Err.ensures.left, c.wake_all-in-Err.ensures.came, c.wake_all-in-Err.ensures.waits, c.wake_all-in-Err.ensures.quiets)
+    (subst (λ (e : ServeEnd). Serving W B T terms (served_world h own before) (served_world h own' after) e) (sym c.end_of.ensures)
     (serves_after W B T h terms before after none_out own own' _ c.await_all.ensures.jobs c.await_all.ensures.gave c.await_all.ensures.later
     (serves_halted W B T h terms first m c.finish-told.new.pass c.take_ended-in-Err.new.pass all_ended c.in-Err.halt c.finish-told.result.answer c.finish-told.result.lost own own' c.await_all.ensures.none c.in-Err.ensures.accepts stopped
-    ended (c.take_ended-in-Err.ensures.none refl) c.finish-told.ensures.records c.finish-told.ensures.has_line))
+    ended (c.take_ended-in-Err.ensures.none refl) c.finish-told.ensures.records c.finish-told.ensures.has_line)))
 
 pub returns-in-Ok-clause-failed : goal.returns-in-Ok-clause-failed
 returns-in-Ok-clause-failed g c e =
@@ -74,7 +82,8 @@ returns-in-Ok-clause-failed g c e =
 
 pub returns-in-Err-clause-failed : goal.returns-in-Err-clause-failed
 returns-in-Err-clause-failed g c e =
-    c.accept_all.ensures.failed (c.in-Err.is ∙ ap Err (halt_failed c.in-Err.halt c.finish-told.result.lost (sym c.end_of.ensures ∙ e)))
+    subst (λ (n : ℕ). HasRisen (g.A.Acceptor.faults c.args.parts.now.acceptor) n) (sym c.wake_all-in-Err.ensures.same)
+    (c.accept_all.ensures.failed (c.in-Err.is ∙ ap Err (halt_failed c.in-Err.halt c.finish-told.result.lost (sym c.end_of.ensures ∙ e))))
 
 pub returns-in-Ok-clause-unrecorded : goal.returns-in-Ok-clause-unrecorded
 returns-in-Ok-clause-unrecorded g c e =
@@ -84,3 +93,31 @@ pub returns-in-Err-clause-unrecorded : goal.returns-in-Err-clause-unrecorded
 returns-in-Err-clause-unrecorded g c e =
     halt_lost c.in-Err.halt c.finish-told.result.lost (sym c.end_of.ensures ∙ e) (λ x. c.accept_all.ensures.unbegun (c.in-Err.is ∙ ap Err x))
     c.finish-told.ensures.failed
+
+pub returns-in-Ok-clause-woken : goal.returns-in-Ok-clause-woken
+returns-in-Ok-clause-woken g c =
+    let A = g.A.Acceptor in
+    let answer = c.finish-stopped.result.answer in (
+      stop_place answer,
+      stands_at _ _ c.finish-stopped.new.pass c.finish-stopped.new.pass answer c.finish-stopped.ensures.stopped (starts_self (seen c.finish-stopped.new.pass)),
+      subst (λ (n : ℕ). LastIs (A.stops c.wake_all.new.self) n) c.place_of.ensures
+          (last_told (A.stops c.accept_all.new.parts.acceptor) (A.stops c.wake_all.new.self) c.place_of.result c.wake_all.ensures.woken),
+    )
+
+pub returns-in-Err-clause-woken : goal.returns-in-Err-clause-woken
+returns-in-Err-clause-woken g c =
+    let A = g.A.Acceptor in
+    let answer = c.finish-told.result.answer in (
+      stop_place answer,
+      stands_at _ _ c.finish-told.new.pass c.take_ended-in-Err.new.pass answer c.finish-told.ensures.stopped c.take_ended-in-Err.ensures.takes_in.went.grows,
+      subst (λ (n : ℕ). LastIs (A.stops c.wake_all-in-Err.new.self) n) c.place_of-in-Err.ensures
+          (last_told (A.stops c.accept_all.new.parts.acceptor) (A.stops c.wake_all-in-Err.new.self) c.place_of-in-Err.result c.wake_all-in-Err.ensures.woken),
+    )
+
+pub returns-in-Ok-clause-bound : goal.returns-in-Ok-clause-bound
+returns-in-Ok-clause-bound g c =
+    subst (λ b. Stays (g.A.Acceptor.bound c.args.parts.now.acceptor) b) (sym c.wake_all.ensures.bound) c.accept_all.ensures.bound
+
+pub returns-in-Err-clause-bound : goal.returns-in-Err-clause-bound
+returns-in-Err-clause-bound g c =
+    subst (λ b. Stays (g.A.Acceptor.bound c.args.parts.now.acceptor) b) (sym c.wake_all-in-Err.ensures.bound) c.accept_all.ensures.bound

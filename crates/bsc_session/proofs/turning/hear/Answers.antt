@@ -2,6 +2,7 @@ use Rattle.std.proofs.Common.{Some, None, Ok, Err, refl, ap}
 use Rattle.bsc_edge.specs.declared.incoming.Incoming.TheVariants.{Quiet, Text, Closed}
 use Rattle.bsc_session.specs.Receiving.{received_one}
 use Rattle.bsc_session.proofs.Hearing.{held_received, hears_message, hears_nothing, runs_received, standing_received}
+use Rattle.bsc_session.proofs.Notifying.{asks_nobody, asks_then}
 use Rattle.bsc_session.proofs.turning.hear.Goals as goal
 
 pub take_message-requires : goal.take_message-requires
@@ -22,3 +23,18 @@ returns-in-Ok-Closed-clause-heard g c v s fixed guarded held runs = hears_nothin
 
 pub returns-in-Err-clause-heard : goal.returns-in-Err-clause-heard
 returns-in-Err-clause-heard g c v s fixed guarded held runs = hears_nothing c.args.here.hub.now v s c.args.now c.args.wait_ms c.args.pass.now c.args.at.now _ (g.L.Link.talk c.args.link.now) (g.L.Link.talk c.receive.new.self) (g.J.Journal.held c.args.journal.now) (Err c.in-Err.fault) (Some c.stop_at.result) c.in-Err.ensures.told refl refl (ap (λ x. Some x) c.stop_at.ensures) refl (held_received c.args.here.hub.now v s c.args.pass.now c.args.at.now _ refl held) (λ going. cc)
+
+pub returns-in-Ok-Message-clause-woken : goal.returns-in-Ok-Message-clause-woken
+returns-in-Ok-Message-clause-woken g c = asks_then c.args.pass.now c.take_message.new.pass (g.L.Link.notices c.args.link.now) (g.L.Link.notices c.receive.new.self) (g.L.Link.notices c.take_message.new.link) c.receive.ensures.asked c.take_message.ensures.woken
+
+pub returns-in-Ok-Quiet-clause-woken : goal.returns-in-Ok-Quiet-clause-woken
+returns-in-Ok-Quiet-clause-woken g c = asks_nobody c.args.pass.now (g.L.Link.notices c.args.link.now) (g.L.Link.notices c.receive.new.self) c.receive.ensures.asked
+
+pub returns-in-Ok-Text-clause-woken : goal.returns-in-Ok-Text-clause-woken
+returns-in-Ok-Text-clause-woken g c = asks_nobody c.args.pass.now (g.L.Link.notices c.args.link.now) (g.L.Link.notices c.receive.new.self) c.receive.ensures.asked
+
+pub returns-in-Ok-Closed-clause-woken : goal.returns-in-Ok-Closed-clause-woken
+returns-in-Ok-Closed-clause-woken g c = asks_nobody c.args.pass.now (g.L.Link.notices c.args.link.now) (g.L.Link.notices c.receive.new.self) c.receive.ensures.asked
+
+pub returns-in-Err-clause-woken : goal.returns-in-Err-clause-woken
+returns-in-Err-clause-woken g c = asks_nobody c.args.pass.now (g.L.Link.notices c.args.link.now) (g.L.Link.notices c.receive.new.self) c.receive.ensures.asked
