@@ -1,5 +1,5 @@
 //! Reading a line of a network's script.
-ghost use Rattle.std.specs.Prelude.{◌≡◌, IfOk, IfErr, Some, None, Err};
+ghost use Rattle.std.specs.Prelude.{◌≡◌, ◌≢◌, ℕ, List, ◌∷◌, codes, IfOk, IfErr, Some, None, Err};
 ghost use Rattle.bsc_text.specs.Words.{words_of};
 ghost use Rattle.bsc_text.specs.Grammar.{octets_of_words, vmac_of_word, device_of_word};
 ghost use Rattle.bsc_network_script.specs.Lines.{index_of, only_index, hub_line, node_of, direct_of_words, node_line, at_line, send_event};
@@ -34,6 +34,7 @@ fn read_index(word: &[u8]) -> Option<u32>
 fn only_index(words: &[u8]) -> Result<u32, LineFault>
     ensures read { IfOk result (λ n. only_index (words_of words.now) ≡ Some n) }
     ensures refused { IfErr result (λ fault. only_index (words_of words.now) ≡ None) }
+    ensures memory { result ≢ Err LineFault.NoMemory }
 {
     let Some((word, words)) = next_word(words) else {
         return Err(LineFault::Refused);
@@ -191,6 +192,7 @@ fn other_event(word: &[u8], words: &[u8]) -> Option<NodeEvent>
 fn read_event(alloc: Global, word: &[u8], words: &[u8]) -> Result<NodeEvent, LineFault>
     ensures read { IfOk result (λ e. event_of word.now (words_of words.now) ≡ Some e) }
     ensures refused { result ≡ Err LineFault.Refused → event_of word.now (words_of words.now) ≡ None }
+    ensures memory { result ≡ Err LineFault.NoMemory → word.now ≡ codes "send" }
 {
     if word == b"send".as_slice() {
         return read_send(alloc, words);
@@ -204,6 +206,7 @@ fn read_event(alloc: Global, word: &[u8], words: &[u8]) -> Result<NodeEvent, Lin
 fn read_node_step(alloc: Global, word: &[u8], words: &[u8]) -> Result<WorldStep, LineFault>
     ensures read { IfOk result (λ s. node_step word.now (words_of words.now) ≡ Some s) }
     ensures refused { result ≡ Err LineFault.Refused → node_step word.now (words_of words.now) ≡ None }
+    ensures memory { result ≡ Err LineFault.NoMemory → word.now ≡ codes "send" }
 {
     let Some((node, words)) = next_word(words) else {
         return Err(LineFault::Refused);
@@ -219,6 +222,7 @@ fn read_node_step(alloc: Global, word: &[u8], words: &[u8]) -> Result<WorldStep,
 fn read_step(alloc: Global, word: &[u8], words: &[u8]) -> Result<WorldStep, LineFault>
     ensures read { IfOk result (λ s. step_of word.now (words_of words.now) ≡ Some s) }
     ensures refused { result ≡ Err LineFault.Refused → step_of word.now (words_of words.now) ≡ None }
+    ensures memory { result ≡ Err LineFault.NoMemory → word.now ≡ codes "send" }
 {
     if word == b"up".as_slice() {
         let link = only_index(words)?;
@@ -253,6 +257,7 @@ fn read_step(alloc: Global, word: &[u8], words: &[u8]) -> Result<WorldStep, Line
 pub fn read_line(alloc: Global, line: &[u8]) -> Result<Line, LineFault>
     ensures read { IfOk result (λ l. line_of line.now ≡ Some l) }
     ensures refused { result ≡ Err LineFault.Refused → line_of line.now ≡ None }
+    ensures memory { result ≡ Err LineFault.NoMemory → (words : List (List ℕ)) × (words_of line.now ≡ codes "send" ∷ words) }
 {
     let Some((word, words)) = next_word(line) else {
         return Ok(Line::Nothing);

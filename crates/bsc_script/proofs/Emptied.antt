@@ -1,390 +1,267 @@
--- An outbox is emptied: what its outlet gave is what entered.
-use Rattle.std.proofs.Common.{◌≡◌, ◌≢◌, ℕ, ◌+◌, ◌^◌, ◌<◌, ◌==◌, Bool, false, not, ◌||◌, set, find, slice_get, List, [], ◌∷◌, ◌++◌, length, map, drop, Option, Some, None, is_some, refl, ap, sym, ◌∙◌, subst, arith, append-nil, append_assoc, length-append}
-use Rattle.std.specs.Global.{Vec}
+-- An outbox is emptied: what was taken from it is what entered.
+use Rattle.std.proofs.Common.{◌≡◌, ◌≢◌, ℕ, ◌+◌, set, find, slice_get, List, [], ◌∷◌, ◌++◌, length, map, drop, Option, Some, None, is_some, refl, ap, sym, ◌∙◌, subst, append-nil, append_assoc, length-append, arith}
 use Rattle.std.specs.Ordering.{nat_cmp}
 use Rattle.std.specs.BTreeMap.{get}
-use Rattle.indexmap.specs.IndexMap.{set_value_at}
 use Rattle.std.proofs.lemmas.List.{map-append}
+use Rattle.std.proofs.lemmas.Option.{same_Some}
 use Rattle.bsc_history.specs.declared.ending.End.{End}
-use Rattle.bsc_history.specs.declared.ending.End.TheVariants.{Left}
-use Rattle.bsc_history.specs.declared.mark.Stamped.{Stamped}
-use Rattle.bsc_history.specs.Ends.{ended, unleft}
-use Rattle.bsc_history.specs.Marks.{entries}
-use Rattle.bsc_history.specs.Outboxes.{sent}
-use Rattle.bsc_history.proofs.Gains.{sent_short}
-use Rattle.bsc_ring.specs.declared.ends.Outlet.{Outlet}
-use mathlib.Core.Option.{some}
-use lib.ListN.{get_elem?}
-use Rattle.bsc_ring.specs.declared.found.Found.TheVariants.{Ending, Tail}
-use Rattle.bsc_ring.specs.declared.take.Take.TheVariants.{Frame, Empty, Closed}
-use Rattle.bsc_ring.specs.Ends.{GaveAll, Took, found, given, empties_of, outlet_mark}
-use Rattle.bsc_desk.specs.declared.desk.Desk.{Desk}
-use Rattle.bsc_desk.specs.Meetings.{IsOutletOf}
-use Rattle.bsc_desk.specs.Rows.{HasRow, IsMarkOf, known_of, row_of}
-use Rattle.bsc_desk.proofs.Rowed.{few_entries, has_unleft, is_mark_of}
-use Rattle.bsc_desk.specs.Live.{known_in}
-use Rattle.bsc_accept.specs.Standing.{AcceptingStands}
+use Rattle.bsc_history.specs.declared.entry.Entry.{Entry}
 use Rattle.bsc_history.specs.declared.limits.About.{About}
-use Rattle.bsc_script.specs.declared.peer.Joined.{Joined}
+use Rattle.bsc_history.specs.Ends.{ended}
+use Rattle.bsc_history.specs.Outboxes.{sent}
+use Rattle.bsc_accept.specs.Standing.{AcceptingStands}
+use Rattle.bsc_hub_core.specs.declared.hub_core.HubCore.{HubCore}
+use Rattle.bsc_hub_core.specs.declared.outbox.Outbox.{Outbox}
+use Rattle.bsc_hub_core.specs.Calls.{TakesNext, TakesNone}
+use Rattle.bsc_hub_core.specs.Outboxes.{empties_by, empties_then, taken_by}
+use Rattle.bsc_hub_core.specs.Standing.{CoreStands, HasOutbox, outbox_at}
 use Rattle.bsc_script.specs.declared.peer.Peer.{Peer as KeptPeer}
 use Rattle.bsc_script.specs.declared.script_hub.ScriptHub.{ScriptHub}
 use Rattle.bsc_script.specs.States.{State, Peer, has_joined_as, peer_on, start_at, with_peer}
 use Rattle.bsc_script.specs.Holding.{ConnsApart, IsJoinedIf, IsPeer, Pairs, conn_of, kept_in, name_of}
-use Rattle.bsc_script.proofs.Changes.{kept, kept-set}
-use Rattle.bsc_script.proofs.Meetings.{but_one, own_any}
-use Rattle.bsc_script.proofs.Pairs.{Apart-same, Pairs-set, Pairs-weaker, get-map, map-set, pair_at, set-twice}
-use Rattle.bsc_script.proofs.Peers.{ConnsApart-same, changed, found_same, some_name}
 use Rattle.bsc_script.specs.Written.{says, line_text, text_of}
 use Rattle.bsc_script.specs.Texts.{out_words}
-use Rattle.bsc_script.specs.Emptying.{due_after, empties_after, frame_lines, unwritten}
-use Rattle.bsc_script.specs.Between.{IsEmptied, IsJoinedAt, IsWritten, written_peer, PeerMeets, OwnsOutlet, Stays, TakesOne, Writes, WritesAll}
+use Rattle.bsc_script.specs.Emptying.{empties_after, frame_lines, unwritten}
+use Rattle.bsc_script.specs.Between.{IsJoinedAt, IsWritten, TakesOne, Writes, WritesAll, written_peer}
 use Rattle.bsc_script.proofs.Carried.{text-append}
-use Rattle.bsc_desk.proofs.Common.{gave_all}
-use Rattle.bsc_history.proofs.Common.{length_entries}
-use Rattle.bsc_lemmas.proofs.Lists.{get-set}
-use Rattle.bsc_ring.proofs.Common.{at_end, short_of as front_few}
-
--- what a meeting asks
-pub owns_meets : (d : Desk) (S : List Stamped) (j : Joined) → OwnsOutlet d S j → HasRow d j.conn × IsMarkOf d j.conn (outlet_mark j.outlet)
-owns_meets d S j w = (has_unleft d S j.conn w.stands w.unleft, is_mark_of d S j.conn (outlet_mark j.outlet) w.stands w.marked)
+use Rattle.bsc_script.proofs.Pairs.{Apart-same, Pairs-weaker, but_one, map-set, pair_at}
+use Rattle.bsc_script.proofs.Peers.{ConnsApart-same, changed, found_same, some_name}
+use Rattle.bsc_lemmas.proofs.Options.{found_some}
 
 -- ---- one take
 
-module _ (S : List Stamped) (d n : Desk) (i j : Joined) (w : OwnsOutlet d S i) (m : PeerMeets d n i j) where
-  -- the outlet that met owns what it did
-  pub met_owns : OwnsOutlet n S j
-  met_owns = record {
-    stands = m.stands S w.stands;
-    unleft = rw m.conn w.unleft;
-    marked = rw (m.conn, m.mark_same) w.marked;
-    few = (let least = front_few (sent d.about (entries S) i.conn) (given j.outlet) (m.outlet S w.stands).begins in rw (m.conn, m.about) (omega arith));
-  }
+-- a frame was taken
+pub took_frame : (H : List Entry) (c : ℕ) (x : List ℕ) (tag : ℕ) (K N : HubCore) (name before after : List ℕ) → TakesNext H c x tag K N
+    → after ≡ before ++ line_text (says name (out_words x)) → TakesOne H c None K N name before after
+took_frame H c x tag K N name before after k wrote = (
+  record {
+    stands = k.changes.stands;
+    about = k.changes.about;
+    others = k.changes.others;
+    old = k.before;
+    was = k.changes.was;
+    new = k.after;
+    now = k.changes.now;
+    more = x ∷ [];
+    taken = k.taken;
+    text = wrote ∙ ap (λ (l : List ℕ). before ++ l) (sym (append-nil (line_text (says name (out_words x)))));
+  },
+  ap length k.taken ∙ length-append (taken_by k.before) (x ∷ []),
+  k.empties,
+)
 
-  -- a frame was taken after the meeting
-  pub took_frame : (p : Outlet) (x name before after : List ℕ) → Took j.outlet (Frame x) p → outlet_mark p ≡ outlet_mark j.outlet → after ≡ before ++ line_text (says name (out_words x)) → TakesOne S None d n i (record j { outlet = p }) name before after
-  took_frame p x name before after g same wrote =
-      let fits = m.outlet S w.stands in
-      let least = front_few (sent d.about (entries S) i.conn) (given j.outlet) fits.begins in
-      let long : length (given p) ≡ length (given j.outlet) + 1 = ap length g.0 ∙ length-append (given j.outlet) (x ∷ []) in (
-        record {
-          stays = record {
-            owns = record { stands = met_owns.stands; unleft = met_owns.unleft; marked = met_owns.marked ∙ ap Some (sym same); few = rw (m.conn, m.about) (omega arith) };
-            about = m.about;
-            others = m.others;
-            mark_same = same ∙ m.mark_same;
-            conn = m.conn;
-            vmac = m.vmac;
-          };
-          more = x ∷ [];
-          given_more = g.0 ∙ ap (λ (l : List (List ℕ)). l ++ x ∷ []) m.given_same;
-          empties_same = g.2 ∙ m.empties_same;
-          text = wrote ∙ ap (λ (l : List ℕ). before ++ l) (sym (append-nil (line_text (says name (out_words x)))));
-        },
-        long ∙ ap (λ (l : List (List ℕ)). length l + 1) m.given_same,
-      )
-
-  -- nothing was left, and the two ends met again
-  emptied_by : (p : Outlet) (ending : Option End) (r : Desk) (k : Joined) (b : Bool) → b ≡ is_some ending → GaveAll j.outlet ending p → outlet_mark p ≡ outlet_mark j.outlet → PeerMeets n r (record j { outlet = p }) k → ending ≡ ended (entries S) i.conn → ending ≢ Some Left → empties_of p ≡ empties_after ending (empties_of j.outlet) → IsEmptied S ending d r i (record k { waits = b }) × (given k.outlet ≡ given i.outlet)
-  emptied_by p ending r k b waits g same again ends named empties =
-      let all : given p ≡ sent d.about (entries S) i.conn = gave_all d S i.conn j.outlet p ending (m.outlet S w.stands) (m.knows S w.stands) g in
-      let whole : given k.outlet ≡ sent d.about (entries S) i.conn = again.given_same ∙ all in
-      let conn : k.conn ≡ i.conn = again.conn ∙ m.conn in
-      let about : r.about ≡ d.about = again.about ∙ m.about in
-      let count : length (given k.outlet) ≡ length (sent d.about (entries S) i.conn) = ap length whole in (
-        record {
-          stays = record {
-            owns = record {
-              stands = again.stands S (m.stands S w.stands);
-              unleft = rw conn w.unleft;
-              marked = rw conn (w.marked ∙ ap Some (sym (again.mark_same ∙ same ∙ m.mark_same)));
-              few = rw (conn, about) (omega arith);
-            };
-            about = about;
-            others = λ b o. again.others b (λ e. o (e ∙ m.conn)) ∙ m.others b o;
-            mark_same = again.mark_same ∙ same ∙ m.mark_same;
-            conn = conn;
-            vmac = again.vmac ∙ m.vmac;
-          };
-          whole = whole;
-          ends = ends;
-          not_left = named;
-          empties = again.empties_same ∙ empties ∙ ap (empties_after ending) m.empties_same;
-          outlet = subst (λ a. IsOutletOf a (entries S) i.conn k.outlet) m.about (subst (λ c. IsOutletOf n.about (entries S) c k.outlet) m.conn (again.outlet S (m.stands S w.stands)));
-          known = ap (known_of r) (sym m.conn) ∙ again.known;
-          waits = waits;
-        },
-        again.given_same ∙ g.0 ∙ m.given_same,
-      )
-
-  -- it is empty, and the connection is live
-  pub took_empty : (p : Outlet) (r : Desk) (k : Joined) (name before : List ℕ) → Took j.outlet Empty p → outlet_mark p ≡ outlet_mark j.outlet → PeerMeets n r (record j { outlet = p }) k → TakesOne S (Some None) d r i (record k { waits = false }) name before before
-  took_empty p r k name before g same again =
-      let e = emptied_by p None r k false refl g.0 same again (sym g.1 ∙ (m.knows S w.stands).ending) (λ q. cc) g.2 in
-      (e.0, e.1, refl)
-
-  -- it is empty, and the connection has ended
-  pub took_closed : (p : Outlet) (ending : End) (r : Desk) (k : Joined) (name before : List ℕ) → Took j.outlet (Closed ending) p → outlet_mark p ≡ outlet_mark j.outlet → PeerMeets n r (record j { outlet = p }) k → TakesOne S (Some (Some ending)) d r i k name before before
-  took_closed p ending r k name before g same again =
-      let at = length (found j.outlet) in
-      let there : get_elem? (found k.outlet) at ≡ some (Ending (Some ending)) = ap (λ l. get_elem? l at) (again.found_same ∙ g.0.3.0) ∙ at_end (found j.outlet) (Tail (length (given j.outlet)) ∷ []) (Ending (Some ending)) in
-      let ends : Some ending ≡ ended (entries S) i.conn = sym (ap (ended (entries S)) (sym m.conn) ∙ (again.outlet S (m.stands S w.stands)).ends ending (at, there)) in
-      let e = emptied_by p (Some ending) r k k.waits again.waits g.0 same again ends (λ q. g.1 (let r : ending ≡ Left = cc in r)) g.2 in
-      (e.0, e.1, refl)
+-- nothing was left
+pub took_none : (H : List Entry) (c : ℕ) (ending : Option End) (K N : HubCore) (name before : List ℕ) → TakesNone H c ending K N → TakesOne H c (Some ending) K N name before before
+took_none H c ending K N name before k = (
+  record {
+    stands = k.changes.stands;
+    about = k.changes.about;
+    others = k.changes.others;
+    old = k.before;
+    was = k.changes.was;
+    new = k.after;
+    now = k.changes.now;
+    more = [];
+    taken = k.taken ∙ sym (append-nil (taken_by k.before));
+    text = sym (append-nil before);
+  },
+  k.taken,
+  record { whole = k.taken ∙ k.whole; ends = sym k.ends; not_left = k.not_left; empties = k.empties ∙ again ending (empties_by k.before) },
+  refl,
+)
+  where
+    again : (e : Option End) (n : ℕ) → empties_then e n ≡ empties_after e n
+    again None n = refl
+    again (Some e) n = refl
 
 -- ---- all takes
-
-stays_both : (S : List Stamped) (d n r : Desk) (i j k : Joined) → Stays S d n i j → Stays S n r j k → Stays S d r i k
-stays_both S d n r i j k a b = record {
-  owns = b.owns;
-  about = b.about ∙ a.about;
-  others = λ c o. b.others c (λ e. o (e ∙ a.conn)) ∙ a.others c o;
-  mark_same = b.mark_same ∙ a.mark_same;
-  conn = b.conn ∙ a.conn;
-  vmac = b.vmac ∙ a.vmac;
-}
 
 -- what isn't something is nothing
 pub none_left : (o : Option (Option End)) → ((e : Option End) → o ≡ Some e → ⊥) → o ≡ None
 none_left None away = refl
 none_left (Some e) away = absurd (away e refl)
 
--- some frames, and then others
-pub writes_both : (S : List Stamped) (d n r : Desk) (i j k : Joined) (name before mid after : List ℕ) → Writes S d n i j name before mid → Writes S n r j k name mid after → Writes S d r i k name before after
-writes_both S d n r i j k name before mid after a b = record {
-  stays = stays_both S d n r i j k a.stays b.stays;
-  more = a.more ++ b.more;
-  given_more = b.given_more ∙ ap (λ (l : List (List ℕ)). l ++ b.more) a.given_more ∙ append_assoc (given i.outlet) a.more b.more;
-  empties_same = b.empties_same ∙ a.empties_same;
-  text = b.text ∙ ap (λ (l : List ℕ). l ++ text_of (frame_lines name b.more)) a.text
-      ∙ append_assoc before (text_of (frame_lines name a.more)) (text_of (frame_lines name b.more))
-      ∙ ap (λ (l : List ℕ). before ++ l) (sym (ap text_of (map-append (λ (m : List ℕ). says name (out_words m)) a.more b.more) ∙ text-append (frame_lines name a.more) (frame_lines name b.more)));
-}
+-- nothing was taken yet
+pub taken_nothing : (H : List Entry) (c : ℕ) (K : HubCore) (name before : List ℕ) → CoreStands K H → HasOutbox K c
+    → (w : Writes H c K K name before before) × (length (taken_by w.new) ≡ length (taken_by w.old) + 0) × (empties_by w.new ≡ empties_by w.old)
+taken_nothing H c K name before s has =
+    let p = found_some (outbox_at K c) has in
+    (record { stands = s; about = refl; others = λ b other. refl; old = p.0; was = p.1; new = p.0; now = p.1; more = []; taken = sym (append-nil (taken_by p.0)); text = sym (append-nil before) }, omega arith, refl)
 
-drop_front : (xs ys : List (List ℕ)) → drop (length xs) (xs ++ ys) ≡ ys
+-- some frames, and then one more
+pub one_more : (H : List Entry) (c n : ℕ) (K N M : HubCore) (name before mid after : List ℕ) (a : Writes H c K N name before mid)
+    → length (taken_by a.new) ≡ length (taken_by a.old) + n → empties_by a.new ≡ empties_by a.old → TakesOne H c None N M name mid after
+    → (w : Writes H c K M name before after) × (length (taken_by w.new) ≡ length (taken_by w.old) + (n + 1)) × (empties_by w.new ≡ empties_by w.old)
+one_more H c n K N M name before mid after a long empties t =
+    let b = t.0 in
+    let same : b.old ≡ a.new = same_Some b.old a.new (sym b.was ∙ a.now) in
+    let next = t.1 in
+    let was = ap (λ (y : Outbox). length (taken_by y)) same in (
+      record {
+        stands = b.stands;
+        about = b.about ∙ a.about;
+        others = λ d other. b.others d other ∙ a.others d other;
+        old = a.old;
+        was = a.was;
+        new = b.new;
+        now = b.now;
+        more = a.more ++ b.more;
+        taken = b.taken ∙ ap (λ (y : Outbox). taken_by y ++ b.more) same ∙ ap (λ (l : List (List ℕ)). l ++ b.more) a.taken ∙ append_assoc (taken_by a.old) a.more b.more;
+        text = b.text ∙ ap (λ (l : List ℕ). l ++ text_of (frame_lines name b.more)) a.text
+            ∙ append_assoc before (text_of (frame_lines name a.more)) (text_of (frame_lines name b.more))
+            ∙ ap (λ (l : List ℕ). before ++ l) (sym (ap text_of (map-append (λ (m : List ℕ). says name (out_words m)) a.more b.more) ∙ text-append (frame_lines name a.more) (frame_lines name b.more)));
+      },
+      omega (arith, next, was, long),
+      t.2 ∙ ap empties_by same ∙ empties,
+    )
+
+pub drop_front : (xs ys : List (List ℕ)) → drop (length xs) (xs ++ ys) ≡ ys
 drop_front [] ys = refl
 drop_front (x ∷ xs) ys = drop_front xs ys
 
 -- some frames, and then none is left
-pub writes_all : (S : List Stamped) (ending : Option End) (d n r : Desk) (i j k : Joined) (name before mid after : List ℕ) → Writes S d n i j name before mid → TakesOne S (Some ending) n r j k name mid after → WritesAll S ending d r i k name before after
-writes_all S ending d n r i j k name before mid after a b =
-    let e = b.0 in
-    let sends : sent n.about (entries S) j.conn ≡ sent d.about (entries S) i.conn = ap (λ x. sent x (entries S) j.conn) a.stays.about ∙ ap (sent d.about (entries S)) a.stays.conn in
-    let more : drop (length (given i.outlet)) (sent d.about (entries S) i.conn) ≡ a.more = ap (drop (length (given i.outlet))) (sym (sym a.given_more ∙ sym b.1 ∙ e.whole ∙ sends)) ∙ drop_front (given i.outlet) a.more in
+pub writes_all : (H : List Entry) (c : ℕ) (ending : Option End) (K N M : HubCore) (name before mid after : List ℕ) (a : Writes H c K N name before mid)
+    → empties_by a.new ≡ empties_by a.old → TakesOne H c (Some ending) N M name mid after → WritesAll H c ending K M name before after
+writes_all H c ending K N M name before mid after a empties b =
+    let w = b.0 in
+    let e = b.2 in
+    let same : w.old ≡ a.new = same_Some w.old a.new (sym w.was ∙ a.now) in
+    let sends : sent N.about H c ≡ sent K.about H c = ap (λ x. sent x H c) a.about in
+    let given : taken_by w.new ≡ taken_by a.old ++ a.more = b.1 ∙ ap taken_by same ∙ a.taken in
+    let rest : drop (length (taken_by a.old)) (sent K.about H c) ≡ a.more = ap (drop (length (taken_by a.old))) (sym (sym given ∙ e.whole ∙ sends)) ∙ drop_front (taken_by a.old) a.more in
     record {
-      emptied = record {
-        stays = stays_both S d n r i j k a.stays e.stays;
-        whole = e.whole ∙ sends;
-        ends = e.ends ∙ ap (ended (entries S)) a.stays.conn;
-        not_left = e.not_left;
-        empties = e.empties ∙ ap (empties_after ending) a.empties_same;
-        outlet = subst (λ x. IsOutletOf x (entries S) i.conn k.outlet) a.stays.about (subst (λ c. IsOutletOf n.about (entries S) c k.outlet) a.stays.conn e.outlet);
-        known = ap (known_of r) (sym a.stays.conn) ∙ e.known;
-        waits = e.waits;
+      writes = record {
+        stands = w.stands;
+        about = w.about ∙ a.about;
+        others = λ d other. w.others d other ∙ a.others d other;
+        old = a.old;
+        was = a.was;
+        new = w.new;
+        now = w.now;
+        more = a.more;
+        taken = given;
+        text = b.3 ∙ a.text;
       };
-      text = b.2 ∙ a.text ∙ ap (λ (l : List (List ℕ)). before ++ text_of (frame_lines name l)) (sym more);
+      emptied = record { whole = e.whole ∙ sends; ends = e.ends; not_left = e.not_left; empties = e.empties ∙ ap (empties_after ending) (ap empties_by same ∙ empties) };
+      text = b.3 ∙ a.text ∙ ap (λ (l : List (List ℕ)). before ++ text_of (frame_lines name l)) (sym rest);
     }
 
--- So many frames as a loop can take were never sent.
-pub never_full : (S : List Stamped) (n : Desk) (j : Joined) → OwnsOutlet n S j → length (given j.outlet) < 2 ^ 53
-never_full S n j w =
-    let few = w.few in
-    let sends = sent_short n.about (entries S) j.conn in
-    let limit = few_entries n S w.stands in
-    let range = n.in_range in
-    let calls = range.few_calls in
-    let rows = range.few_rows in
-    let long = length_entries S in
-    omega arith
-
--- what a second meeting asks
-pub met_again : (d n : Desk) (S : List Stamped) (i j : Joined) (p : Outlet) → OwnsOutlet d S i → PeerMeets d n i j → outlet_mark p ≡ outlet_mark j.outlet → HasRow n j.conn × IsMarkOf n j.conn (outlet_mark p)
-met_again d n S i j p w m same =
-    let both = owns_meets n S j (met_owns S d n i j w m) in
-    (both.0, subst (IsMarkOf n j.conn) (sym same) both.1)
-
 -- Who has another connection stays as it was.
-other_joined_kept : (c : ℕ) (d n : Desk) (S : List Stamped) (k : Peer) (o : Option Joined) → n.about ≡ d.about → ((b : ℕ) → b ≢ c → row_of n b ≡ row_of d b) → IsJoinedIf d S k o → (k.conn ≡ Some c → ⊥) → IsJoinedIf n S k o
-other_joined_kept c d n S k None same others p away = p
-other_joined_kept c d n S k (Some j) same others p away =
-    let q = p.1 in (
-      p.0,
-      record {
-        joiner = q.joiner;
-        address = q.address;
-        marked = q.marked;
-        outlet = subst (λ a. IsOutletOf a (entries S) j.conn j.outlet) (sym same) q.outlet;
-        frames = q.frames;
-        empties = q.empties;
-        known = ap known_in (others j.conn (λ e. away (p.0 ∙ ap Some e))) ∙ q.known;
-        waits = q.waits ∙ ap (λ a. due_after a (entries S) k j.conn) (sym same);
-      },
-    )
+other_joined_kept : (c : ℕ) (K N : HubCore) (H : List Entry) (k : Peer) (o : Option ℕ) → ((b : ℕ) → b ≢ c → outbox_at N b ≡ outbox_at K b) → IsJoinedIf K H k o
+    → (k.conn ≡ Some c → ⊥) → IsJoinedIf N H k o
+other_joined_kept c K N H k None others p away = p
+other_joined_kept c K N H k (Some b) others p away =
+    let q = p.1 in
+    (p.0, record { joiner = q.joiner; outbox = q.outbox; there = others b (λ e. away (p.0 ∙ ap Some e)) ∙ q.there; frames = q.frames; empties = q.empties })
 
-other_kept : (c : ℕ) (d n : Desk) (S : List Stamped) (k : Peer) (x : List ℕ × KeptPeer) → n.about ≡ d.about → ((b : ℕ) → b ≢ c → row_of n b ≡ row_of d b) → IsPeer d S k x → (k.conn ≡ Some c → ⊥) → IsPeer n S k x
-other_kept c d n S k x same others p away = record {
+other_kept : (c : ℕ) (K N : HubCore) (H : List Entry) (k : Peer) (x : List ℕ × KeptPeer) → N.about ≡ K.about → ((b : ℕ) → b ≢ c → outbox_at N b ≡ outbox_at K b) → IsPeer K H k x
+    → (k.conn ≡ Some c → ⊥) → IsPeer N H k x
+other_kept c K N H k x same others p away = record {
   name = p.name;
   machine = subst (λ (a : About). AcceptingStands x.1.machine (start_at a k) k.events) (sym same) p.machine;
   held = p.held;
-  joined = other_joined_kept c d n S k x.1.joined same others p.joined away;
+  joined = other_joined_kept c K N H k x.1.joined others p.joined away;
 }
 
 -- ---- the peer at a place
 
--- who stands at the place is kept with its outlet
-module _ (t : ScriptHub) (at c : ℕ) (s : State) (k : Peer) (w : IsJoinedAt t at c s k) (v : Vec ℕ) (p : KeptPeer) (there : slice_get t.peers.entries at ≡ Some (v, p)) where
-  kept_pair : IsPeer t.desk w.stands.marked k (v.items, p)
-  kept_pair = pair_at (IsPeer t.desk w.stands.marked) s.peers (kept_in t) at k (v.items, p) w.stands.peers w.here (get-map kept t.peers.entries at (v, p) there)
+-- who stands at the place is kept with its connection
+module _ (t : ScriptHub) (at c : ℕ) (s : State) (k : Peer) (w : IsJoinedAt t at c s k) (x : List ℕ × KeptPeer) (here : slice_get (kept_in t) at ≡ Some x) where
+  pair : IsPeer t.core s.history k x
+  pair = pair_at (IsPeer t.core s.history) s.peers (kept_in t) at k x w.stands.peers w.here here
 
   -- it isn't without one
-  pub has_outlet : p.joined ≡ None → ⊥
-  has_outlet is = (let mine : IsJoinedIf t.desk w.stands.marked k None = subst (IsJoinedIf t.desk w.stands.marked k) is kept_pair.joined in let bad : Some c ≡ None = sym w.conn ∙ mine.0 in cc)
+  pub has_conn_kept : x.1.joined ≡ None → ⊥
+  has_conn_kept is = (let mine : IsJoinedIf t.core s.history k None = subst (IsJoinedIf t.core s.history k) is pair.joined in let bad : Some c ≡ None = sym w.conn ∙ mine.0 in cc)
 
-  module _ (i : Joined) (is : p.joined ≡ Some i) where
-    mine : IsJoinedIf t.desk w.stands.marked k (Some i)
-    mine = subst (IsJoinedIf t.desk w.stands.marked k) is kept_pair.joined
+  module _ (b : ℕ) (is : x.1.joined ≡ Some b) where
+    mine : IsJoinedIf t.core s.history k (Some b)
+    mine = subst (IsJoinedIf t.core s.history k) is pair.joined
 
-    own_conn : i.conn ≡ c
-    own_conn = (let e : Some i.conn ≡ Some c = sym mine.0 ∙ w.conn in one i.conn c e)
-      where
-        one : (a b : ℕ) → Some a ≡ Some b → a ≡ b
-        one a b e = cc
+    own_conn : b ≡ c
+    own_conn = same_Some b c (sym mine.0 ∙ w.conn)
 
-    -- its outlet may be taken from
-    pub may_take : OwnsOutlet t.desk w.stands.marked i
-    may_take = record {
-      stands = w.stands.stands;
-      unleft = own_any (entries w.stands.marked) 0 i.conn mine.1.joiner;
-      marked = mine.1.marked;
-      few = (let low = front_few (sent t.desk.about (entries w.stands.marked) i.conn) (given i.outlet) mine.1.outlet.begins in omega arith);
-    }
+    -- its outbox may be taken from
+    pub may_take : HasOutbox t.core b
+    may_take = ap is_some mine.1.there
 
-    sends : sent t.desk.about (entries w.stands.marked) i.conn ≡ sent s.about s.history c
-    sends = ap (λ a. sent a (entries w.stands.marked) i.conn) w.stands.about ∙ ap (λ H. sent s.about H i.conn) w.stands.history ∙ ap (sent s.about s.history) own_conn
-
-    -- what is unwritten is what the outlet didn't give yet
-    unwritten_so : drop (length (given i.outlet)) (sent t.desk.about (entries w.stands.marked) i.conn) ≡ unwritten s k c
-    unwritten_so = ap (λ (f : List (List ℕ)). drop (length f) (sent t.desk.about (entries w.stands.marked) i.conn)) mine.1.frames ∙ ap (drop (length k.frames)) sends
-
-    -- written and unwritten frames together are what entered
-    together : k.frames ++ unwritten s k c ≡ sent s.about s.history c
-    together =
-        let b = mine.1.outlet.begins in
-        let whole : sent s.about s.history c ≡ k.frames ++ b.0 = sym sends ∙ b.1 ∙ ap (λ (f : List (List ℕ)). f ++ b.0) mine.1.frames in
-        ap (λ (x : List (List ℕ)). k.frames ++ drop (length k.frames) x) whole ∙ ap (λ (x : List (List ℕ)). k.frames ++ x) (drop_front k.frames b.0) ∙ sym whole
-
-    module _ (u : ScriptHub) (j : Joined) (ending : Option End) (before after : List ℕ) (h : WritesAll w.stands.marked ending t.desk u.desk i j v.items before after) where
+    module _ (u : ScriptHub) (ending : Option End) (before after : List ℕ) (h : WritesAll s.history b ending t.core u.core x.0 before after) where
       abbrev wrote : Peer
       wrote = written_peer ending (unwritten s k c) k
 
-      frames_so : given j.outlet ≡ wrote.frames
-      frames_so = h.emptied.whole ∙ sends ∙ sym together ∙ by ending
-        where
-          by : (e : Option End) → k.frames ++ unwritten s k c ≡ (written_peer e (unwritten s k c) k).frames
-          by None = refl
-          by (Some x) = refl
+      box : h.writes.old ≡ mine.1.outbox
+      box = same_Some h.writes.old mine.1.outbox (sym h.writes.was ∙ mine.1.there)
 
-      conn_so : wrote.conn ≡ k.conn
-      conn_so = by ending
-        where
-          by : (e : Option End) → (written_peer e (unwritten s k c) k).conn ≡ k.conn
-          by None = refl
-          by (Some x) = refl
+      sends : sent t.core.about s.history b ≡ sent s.about s.history c
+      sends = ap (λ a. sent a s.history b) w.stands.about ∙ ap (sent s.about s.history) own_conn
 
-      name_so : wrote.name ≡ k.name
-      name_so = by ending
-        where
-          by : (e : Option End) → (written_peer e (unwritten s k c) k).name ≡ k.name
-          by None = refl
-          by (Some x) = refl
+      -- what is unwritten is what wasn't taken yet
+      unwritten_so : drop (length (taken_by h.writes.old)) (sent t.core.about s.history b) ≡ unwritten s k c
+      unwritten_so = ap (λ (f : List (List ℕ)). drop (length f) (sent t.core.about s.history b)) (ap taken_by box ∙ mine.1.frames) ∙ ap (drop (length k.frames)) sends
 
-      empties_so : empties_of j.outlet ≡ wrote.empties
-      empties_so = h.emptied.empties ∙ ap (empties_after ending) mine.1.empties ∙ by ending
-        where
-          by : (e : Option End) → empties_after e k.empties ≡ (written_peer e (unwritten s k c) k).empties
-          by None = refl
-          by (Some x) = refl
+      -- written and unwritten frames together are what entered
+      together : k.frames ++ unwritten s k c ≡ sent s.about s.history c
+      together =
+          let whole : sent s.about s.history c ≡ k.frames ++ h.writes.more = sym sends ∙ sym h.emptied.whole ∙ h.writes.taken ∙ ap (λ (f : List (List ℕ)). f ++ h.writes.more) (ap taken_by box ∙ mine.1.frames) in
+          ap (λ (y : List (List ℕ)). k.frames ++ drop (length k.frames) y) whole ∙ ap (λ (y : List (List ℕ)). k.frames ++ y) (drop_front k.frames h.writes.more) ∙ sym whole
 
-      machine_so : AcceptingStands p.machine (start_at u.desk.about wrote) wrote.events
-      machine_so = by ending
-        where
-          base : AcceptingStands p.machine (start_at u.desk.about k) k.events
-          base = subst (λ (a : About). AcceptingStands p.machine (start_at a k) k.events) (sym h.emptied.stays.about) kept_pair.machine
+      -- what is written leaves all else of the peer
+      record Fits (e : Option End) (j : Peer) : Type 0 where
+        pub name : j.name ≡ k.name
+        pub conn : j.conn ≡ k.conn
+        pub held : j.held ≡ k.held
+        pub frames : j.frames ≡ k.frames ++ unwritten s k c
+        pub empties : j.empties ≡ empties_after e k.empties
+        pub machine : AcceptingStands x.1.machine (start_at u.core.about j) j.events
 
-          by : (e : Option End) → AcceptingStands p.machine (start_at u.desk.about (written_peer e (unwritten s k c) k)) (written_peer e (unwritten s k c) k).events
-          by None = base
-          by (Some x) = base
+      fits : (e : Option End) → Fits e (written_peer e (unwritten s k c) k)
+      fits None = record { name = refl; conn = refl; held = refl; frames = refl; empties = refl; machine = subst (λ (a : About). AcceptingStands x.1.machine (start_at a k) k.events) (sym h.writes.about) pair.machine }
+      fits (Some y) = record { name = refl; conn = refl; held = refl; frames = refl; empties = refl; machine = subst (λ (a : About). AcceptingStands x.1.machine (start_at a k) k.events) (sym h.writes.about) pair.machine }
 
-      held_so : wrote.held ≡ p.held
-      held_so = by ending ∙ kept_pair.held
-        where
-          by : (e : Option End) → (written_peer e (unwritten s k c) k).held ≡ k.held
-          by None = refl
-          by (Some x) = refl
-
-      waits_so : is_some ending ≡ due_after u.desk.about (entries w.stands.marked) wrote i.conn
-      waits_so =
-          let all : sent u.desk.about (entries w.stands.marked) i.conn ≡ wrote.frames = ap (λ a. sent a (entries w.stands.marked) i.conn) h.emptied.stays.about ∙ sym h.emptied.whole ∙ frames_so in
-          let none : drop (length wrote.frames) (sent u.desk.about (entries w.stands.marked) i.conn) ≡ [] = ap (drop (length wrote.frames)) (all ∙ sym (append-nil wrote.frames)) ∙ drop_front wrote.frames [] in
-          sym (ap (λ (l : List (List ℕ)). not (length l == 0) || is_some (ended (entries w.stands.marked) i.conn)) none ∙ ap is_some (sym h.emptied.ends))
-
-      new_pair : IsPeer u.desk w.stands.marked wrote (v.items, record p { joined = Some j })
-      new_pair =
-          let e = h.emptied in
-          let conn : j.conn ≡ i.conn = e.stays.conn in
+      new_pair : IsPeer u.core s.history wrote x
+      new_pair = record {
+        name = (fits ending).name ∙ pair.name;
+        machine = (fits ending).machine;
+        held = (fits ending).held ∙ pair.held;
+        joined = subst (IsJoinedIf u.core s.history wrote) (sym is) (
+          (fits ending).conn ∙ mine.0,
           record {
-            name = name_so ∙ kept_pair.name;
-            machine = machine_so;
-            held = held_so;
-            joined = (
-              conn_so ∙ mine.0 ∙ ap Some (sym conn),
-              record {
-                joiner = rw conn mine.1.joiner;
-                address = rw conn (mine.1.address ∙ sym e.stays.vmac);
-                marked = rw (conn, e.stays.mark_same) mine.1.marked;
-                outlet = subst (λ a. IsOutletOf a (entries w.stands.marked) j.conn j.outlet) (sym e.stays.about) (subst (λ b. IsOutletOf t.desk.about (entries w.stands.marked) b j.outlet) (sym conn) e.outlet);
-                frames = frames_so;
-                empties = empties_so;
-                known = ap (known_of u.desk) conn ∙ e.known ∙ ap length frames_so;
-                waits = e.waits ∙ waits_so ∙ ap (due_after u.desk.about (entries w.stands.marked) wrote) (sym conn);
-              },
-            );
-          }
+            joiner = mine.1.joiner;
+            outbox = h.writes.new;
+            there = h.writes.now;
+            frames = h.emptied.whole ∙ sends ∙ sym together ∙ sym (fits ending).frames;
+            empties = h.emptied.empties ∙ ap (empties_after ending) (ap empties_by box ∙ mine.1.empties) ∙ sym (fits ending).empties;
+          },
+        );
+      }
 
       -- All was written: the hub stands for the state with that.
-      pub is_written : u.about ≡ t.about → u.clock ≡ t.clock → u.names ≡ t.names → u.peers.entries ≡ set_value_at t.peers.entries at (record p { joined = Some j }) → IsWritten u at c s k ending before after
-      is_written same_about same_clock same_names written =
+      pub is_written : u.about ≡ t.about → u.clock ≡ t.clock → u.names ≡ t.names → kept_in u ≡ kept_in t → IsWritten u at c s k ending before after
+      is_written same_about same_clock same_names same_kept =
           let g = w.stands in
-          let e = h.emptied in
-          let x : List ℕ × KeptPeer = (v.items, record p { joined = Some j }) in
-          let Q = IsPeer u.desk g.marked in
+          let f = fits ending in
+          let Q = IsPeer u.core s.history in
           let R = λ (q : Peer) (y : List ℕ × KeptPeer). (q.conn ≡ Some c → ⊥) → Q q y in
           let ks : List Peer = (with_peer wrote s).peers in
-          let is_set : ks ≡ set s.peers at wrote = changed s.peers at k wrote g.apart w.here name_so in
-          let names : map name_of (set s.peers at wrote) ≡ map name_of s.peers = map-set name_of s.peers at k wrote w.here name_so in
-          let conns : map conn_of (set s.peers at wrote) ≡ map conn_of s.peers = map-set conn_of s.peers at k wrote w.here conn_so in
-          let apart : ConnsApart (set s.peers at wrote) = ConnsApart-same s.peers (set s.peers at wrote) (sym conns) g.conns in
-          let others : (b : ℕ) → b ≢ c → row_of u.desk b ≡ row_of t.desk b = λ b o. e.stays.others b (λ q. o (q ∙ own_conn)) in
-          let rest : Pairs R s.peers (kept_in t) = Pairs-weaker (IsPeer t.desk g.marked) R s.peers (kept_in t) (λ q y m z. other_kept c t.desk u.desk g.marked q y e.stays.about others z) g.peers in
-          let both : Pairs R (set s.peers at wrote) (set (kept_in t) at x) = Pairs-set R s.peers (kept_in t) at wrote x rest (λ away. new_pair) in
-          let all : Pairs Q (set s.peers at wrote) (set (set (kept_in t) at x) at x) = but_one Q c (set s.peers at wrote) (set (kept_in t) at x) at wrote x apart both (get-set s.peers at k wrote w.here) (conn_so ∙ w.conn) new_pair in
-          let kept_so : kept_in u ≡ set (set (kept_in t) at x) at x = ap (map kept) written ∙ kept-set t.peers.entries at v p (record p { joined = Some j }) there ∙ sym (set-twice (kept_in t) at x x) in
-          let ns : map name_of ks ≡ map name_of s.peers = ap (map name_of) is_set ∙ names in
+          let is_set : ks ≡ set s.peers at wrote = changed s.peers at k wrote g.apart w.here f.name in
+          let ns : map name_of ks ≡ map name_of s.peers = ap (map name_of) is_set ∙ map-set name_of s.peers at k wrote w.here f.name in
+          let conns : map conn_of (set s.peers at wrote) ≡ map conn_of s.peers = map-set conn_of s.peers at k wrote w.here f.conn in
           let cs : map conn_of ks ≡ map conn_of s.peers = ap (map conn_of) is_set ∙ conns in
+          let rest : Pairs R s.peers (kept_in t) = Pairs-weaker (IsPeer t.core s.history) R s.peers (kept_in t) (λ q y m z. other_kept c t.core u.core s.history q y h.writes.about (λ d other. h.writes.others d (λ e. other (e ∙ own_conn))) z) g.peers in
+          let all : Pairs Q (set s.peers at wrote) (kept_in t) = but_one Q c s.peers (kept_in t) at k wrote x g.conns rest w.here w.conn here new_pair in
           record {
             stands = record {
-              marked = g.marked;
-              history = g.history;
-              stands = e.stays.owns.stands;
-              about = e.stays.about ∙ g.about;
+              core = h.writes.stands;
+              about = h.writes.about ∙ g.about;
               same_hub = same_about ∙ g.same_hub;
               clock = same_clock ∙ g.clock;
-              peers = subst (λ l. Pairs Q l (kept_in u)) (sym is_set) (subst (Pairs Q (set s.peers at wrote)) (sym kept_so) all);
+              peers = subst (λ l. Pairs Q l (kept_in u)) (sym is_set) (subst (Pairs Q (set s.peers at wrote)) (sym same_kept) all);
               apart = Apart-same name_of name_of s.peers ks (sym ns) g.apart;
-              conns = subst ConnsApart (sym is_set) apart;
-              names = λ b. ap (λ m. get nat_cmp m b) same_names ∙ g.names b ∙ found_same b s.peers ks (sym ns) (sym cs);
-              joined = λ b any. sym (some_name (find (has_joined_as b) ks)) ∙ ap is_some (found_same b ks s.peers ns cs) ∙ some_name (peer_on s b) ∙ g.joined b any;
+              conns = subst ConnsApart (sym is_set) (ConnsApart-same s.peers (set s.peers at wrote) (sym conns) g.conns);
+              names = λ d. ap (λ m. get nat_cmp m d) same_names ∙ g.names d ∙ found_same d s.peers ks (sym ns) (sym cs);
+              joined = λ d any. sym (some_name (find (has_joined_as d) ks)) ∙ ap is_some (found_same d ks s.peers ns cs) ∙ some_name (peer_on s d) ∙ g.joined d any;
             };
-            ends = e.ends ∙ ap (λ H. ended H i.conn) g.history ∙ ap (ended s.history) own_conn;
-            not_left = e.not_left;
-            text = h.text ∙ ap (λ (l : List (List ℕ)). before ++ text_of (frame_lines v.items l)) unwritten_so ∙ ap (λ (n : List ℕ). before ++ text_of (frame_lines n (unwritten s k c))) (sym kept_pair.name);
+            ends = h.emptied.ends ∙ ap (ended s.history) own_conn;
+            not_left = h.emptied.not_left;
+            text = h.text ∙ ap (λ (l : List (List ℕ)). before ++ text_of (frame_lines x.0 l)) unwritten_so ∙ ap (λ (n : List ℕ). before ++ text_of (frame_lines n (unwritten s k c))) (sym pair.name);
           }

@@ -24,8 +24,6 @@ mod WorkedForwards
 mod WorkedVerdicts
 mod WorkedRefusals
 pub mod Touched
-pub mod Between
-pub mod Meetings
 pub mod Entered
 pub mod Sending
 pub mod Stopped

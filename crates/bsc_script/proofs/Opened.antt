@@ -7,7 +7,7 @@ use Rattle.bsc_text.specs.Lines.{same_octets}
 use Rattle.bsc_history.specs.declared.limits.About.{About}
 use Rattle.bsc_history.specs.declared.entry.Entry.{Entry}
 use Rattle.bsc_history.proofs.Lists.{In, Apart-push, find_says}
-use Rattle.bsc_desk.specs.Standing.{DeskStands}
+use Rattle.bsc_hub_core.specs.Standing.{CoreStands}
 use Rattle.bsc_accept.specs.declared.accepting.Accepting.{Accepting}
 use Rattle.bsc_accept.specs.Standing.{AcceptingStands}
 use Rattle.bsc_script.specs.declared.peer.Peer.{Peer as KeptPeer}
@@ -86,31 +86,29 @@ new_settled a H name now = record {
 
 pub opened : (t n : ScriptHub) (s : State) (v : Vec ℕ Global) (m : Accepting) → ScriptHolds t s → is_open s v.items ≡ false
     → AcceptingStands m (record { own = t.about.hub; times = default_times; at = t.clock }) []
-    → n.desk ≡ t.desk → n.about ≡ t.about → n.clock ≡ t.clock → n.names ≡ t.names
+    → n.core ≡ t.core → n.about ≡ t.about → n.clock ≡ t.clock → n.names ≡ t.names
     → n.peers.entries ≡ insert_entry (λ (a b : Vec ℕ Global). same_octets a.items b.items) t.peers.entries v (record { machine = m; held = false; joined = None })
     → CarriesOut n [] [] [] (quietly (with_opened (new_peer v.items s.clock) s))
-opened t n s v m h closed machine desk about clock names entries_so =
+opened t n s v m h closed machine core about clock names entries_so =
     let k : Peer = new_peer v.items s.clock in
     let p : KeptPeer = record { machine = m; held = false; joined = None } in
     let none : find (is_named v.items) s.peers ≡ None = nobody (find (is_named v.items) s.peers) closed in
     let kept_so : kept_in n ≡ kept_in t ++ (v.items, p) ∷ [] = ap (map kept) (entries_so ∙ insert_new s.peers t.peers.entries v p (indexed t s h.0).names none) ∙ map-push kept t.peers.entries (v, p) in
-    let stands_machine : AcceptingStands m (start_at t.desk.about k) [] =
+    let stands_machine : AcceptingStands m (start_at t.core.about k) [] =
     subst (λ (a : About). AcceptingStands m (record { own = a.hub; times = default_times; at = s.clock }) []) (h.0.same_hub ∙ sym h.0.about)
     (subst (λ (c : ℕ). AcceptingStands m (record { own = t.about.hub; times = default_times; at = c }) []) h.0.clock machine) in
-    let own : IsPeer t.desk h.0.marked k (v.items, p) = record { name = refl; machine = stands_machine; held = refl; joined = (refl, refl, refl) } in
-    let all : ArePeers t.desk h.0.marked (s.peers ++ k ∷ []) (kept_in n) =
-    subst (λ es. ArePeers t.desk h.0.marked (s.peers ++ k ∷ []) es) (sym kept_so) (Pairs-push (IsPeer t.desk h.0.marked) s.peers (kept_in t) k (v.items, p) h.0.peers own) in
+    let own : IsPeer t.core s.history k (v.items, p) = record { name = refl; machine = stands_machine; held = refl; joined = (refl, refl, refl) } in
+    let all : ArePeers t.core s.history (s.peers ++ k ∷ []) (kept_in n) =
+    subst (λ es. ArePeers t.core s.history (s.peers ++ k ∷ []) es) (sym kept_so) (Pairs-push (IsPeer t.core s.history) s.peers (kept_in t) k (v.items, p) h.0.peers own) in
     let says = subst (λ o. MatchOption o ((x : Peer) → In x s.peers → is_named v.items x ≡ false) (λ x. In x s.peers × (is_named v.items x ≡ true))) none (find_says (is_named v.items) s.peers) in
     let found : (c : ℕ) → find (has_joined_as c) (s.peers ++ k ∷ []) ≡ peer_on s c = λ c. find-push (has_joined_as c) s.peers k refl in
     quiet_carried n [] [] (with_opened k s)
     record {
-      marked = h.0.marked;
-      history = h.0.history;
-      stands = subst (λ d. DeskStands d h.0.marked) (sym desk) h.0.stands;
-      about = ap (λ d. d.about) desk ∙ h.0.about;
+      core = subst (λ d. CoreStands d s.history) (sym core) h.0.core;
+      about = ap (λ d. d.about) core ∙ h.0.about;
       same_hub = about ∙ h.0.same_hub;
       clock = clock ∙ h.0.clock;
-      peers = subst (λ d. ArePeers d h.0.marked (s.peers ++ k ∷ []) (kept_in n)) (sym desk) all;
+      peers = subst (λ d. ArePeers d s.history (s.peers ++ k ∷ []) (kept_in n)) (sym core) all;
       apart = Apart-push name_of s.peers (Some k) h.0.apart (λ x y among e same. true≢false (sym (name_same x.name v.items (same ∙ ap name_of (sym (one k y e)))) ∙ says x among));
       conns = ConnsApart-push s.peers k refl h.0.conns;
       names = λ c. ap (λ q. get nat_cmp q c) names ∙ h.0.names c ∙ ap (option_map name_of) (sym (found c));

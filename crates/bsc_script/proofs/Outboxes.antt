@@ -1,5 +1,5 @@
 -- An outbox is emptied, and who had it is settled; or it isn't to be.
-use Rattle.std.proofs.Common.{◌≡◌, ◌≢◌, ℕ, zero, suc, ◌+◌, ◌-◌, ◌==◌, ◌<◌, nat_lt, Bool, true, false, not, cond, ◌&&◌, ◌||◌, List, [], ◌∷◌, ◌++◌, length, take, drop, slice_get, Option, Some, None, MatchOption, is_some, true≢false, refl, ap, sym, ◌∙◌, subst, arith, length-append, length-drop, drop_of_length-le}
+use Rattle.std.proofs.Common.{◌≡◌, ◌≢◌, ℕ, zero, suc, ◌+◌, ◌-◌, ◌==◌, ◌<◌, nat_lt, Bool, true, false, not, cond, ◌&&◌, ◌||◌, List, [], ◌∷◌, ◌++◌, length, take, drop, slice_get, Some, None, MatchOption, is_some, true≢false, refl, ap, sym, ◌∙◌, subst, arith, length-append, length-drop, drop_of_length-le}
 use Rattle.std.specs.List.{AllByRecursion, list_all}
 use Rattle.std.proofs.lemmas.Bool.{and_parts, false_from_ne_true, eqb-true}
 use Rattle.bsc_history.specs.declared.limits.About.{About}
@@ -8,8 +8,11 @@ use Rattle.bsc_history.specs.declared.ending.End.{End}
 use Rattle.bsc_history.specs.declared.ending.End.TheVariants.{Left}
 use Rattle.bsc_history.specs.Ends.{ended}
 use Rattle.bsc_history.specs.Laws.{is_among}
-use Rattle.bsc_history.specs.Marks.{entries}
 use Rattle.bsc_history.specs.Outboxes.{sent}
+use Rattle.bsc_hub_core.specs.declared.outbox.Outbox.{Outbox}
+use Rattle.bsc_hub_core.specs.Calls.{has_due}
+use Rattle.bsc_hub_core.specs.Standing.{CoreStands, HasOutbox, outbox_at}
+use Rattle.bsc_checks.specs.declared.phase.Phase.{Phase}
 use Rattle.bsc_accept.specs.declared.accepting.Accepting.{Accepting}
 use Rattle.bsc_accept.specs.declared.event.Event.TheVariants.{Ended}
 use Rattle.bsc_accept.specs.declared.stage.Stage.{Stage}
@@ -20,23 +23,22 @@ use Rattle.bsc_accept.specs.Past.{phase, phase_named}
 use Rattle.bsc_accept.specs.Standing.{AcceptingStands, IsConnected, is_open, phase_at, phase_of}
 use Rattle.bsc_accept.specs.Kept.{standing_at}
 use Rattle.bsc_accept.proofs.Following.{standing_of_open}
-use Rattle.bsc_script.specs.declared.peer.Joined.{Joined}
 use Rattle.bsc_script.specs.declared.peer.Peer.{Peer as KeptPeer}
 use Rattle.bsc_script.specs.declared.script_hub.ScriptHub.{ScriptHub}
 use Rattle.bsc_script.specs.States.{State, Peer, start_at, has_joined_as, peer_on, with_peer}
 use Rattle.bsc_script.specs.Carrying.{quietly, tells}
 use Rattle.bsc_script.specs.Emptying.{is_connected, unwritten, due_after, emptied_after, is_emptied, given_frames, found_empty, ends_as, empties, frame_lines, emptied_if, emptied_on}
 use Rattle.bsc_script.specs.Settled.{IsSettledBut, SettledBut, ascends}
-use Rattle.bsc_script.specs.Holding.{IsJoinedIf, IsPeer, ScriptStands, StandsAt, IsAt, IsToEmpty, KeepsAt, CarriesOut, ConnsApart, conn_of, kept_in, waits_in}
-use Rattle.bsc_script.specs.Between.{IsJoinedAt, IsWritten}
+use Rattle.bsc_script.specs.Holding.{IsPeer, ScriptStands, StandsAt, IsAt, IsToEmpty, KeepsAt, CarriesOut, ConnsApart, conn_of, kept_in}
+use Rattle.bsc_script.specs.Between.{IsJoinedAt, IsOpenPeer, IsWritten}
 use Rattle.bsc_history.proofs.Lists.{In, all_from_In, In_from_all, find_says}
 use Rattle.bsc_script.proofs.Pairs.{pair_at, partner_of, In-at}
+use Rattle.bsc_script.proofs.Entered.{joined_peer}
 use Rattle.bsc_script.proofs.Names.{names_length}
 use Rattle.bsc_script.proofs.Peers.{conn_has}
 use Rattle.bsc_script.proofs.Changes.{indexed, at_changed, settled_at, settled_one}
 use Rattle.bsc_script.proofs.Carried.{lines_carried, quiet_carried}
 use Rattle.bsc_script.proofs.Common.{connected_only}
-use Rattle.std.proofs.lemmas.Option.{none-some as none_some}
 
 -- ---- what is left of an outbox
 
@@ -57,7 +59,8 @@ pub written_joined : (t : ScriptHub) (at c : ℕ) (ds : List ℕ) (s : State) (k
 written_joined t at c ds s k w = record { stands = w.place.stands; here = w.place.here; conn = w.conn }
 
 -- Its connection is live.
-pub live_emptied : (t n : ScriptHub) (at c : ℕ) (ds : List ℕ) (s : State) (k : Peer) (before after : List ℕ) → IsToEmpty t at c ds s k → IsWritten n at c s k None before after → CarriesOut n before after ds (empties s k c)
+pub live_emptied : (t n : ScriptHub) (at c : ℕ) (ds : List ℕ) (s : State) (k : Peer) (before after : List ℕ) → IsToEmpty t at c ds s k → IsWritten n at c s k None before after
+    → CarriesOut n before after ds (empties s k c)
 live_emptied t n at c ds s k before after w r =
     let frames = unwritten s k c in
     let j : Peer = found_empty (given_frames frames k) in
@@ -106,11 +109,12 @@ pub open_phase : (m : Accepting) (i : Start) (E : List Event) → AcceptingStand
 open_phase m i E h o = by_stage m.stage o ∙ ap phase_named (sym (standing_of_open m i E h o))
 
 -- The machine of a peer whose outbox is emptied is connected.
-pub ended_connected : (n : ScriptHub) (at c : ℕ) (ds : List ℕ) (s : State) (k : Peer) (ending : End) (t : ScriptHub) (before after : List ℕ) → IsToEmpty t at c ds s k → IsWritten n at c s k (Some ending) before after → KeepsAt n at (λ p. IsConnected p.machine)
+pub ended_connected : (n : ScriptHub) (at c : ℕ) (ds : List ℕ) (s : State) (k : Peer) (ending : End) (t : ScriptHub) (before after : List ℕ) → IsToEmpty t at c ds s k
+    → IsWritten n at c s k (Some ending) before after → KeepsAt n at (λ p. IsConnected p.machine)
 ended_connected n at c ds s k ending t before after w r = λ e is. (
     let j : Peer = given_frames (unwritten s k c) k in
     let place = ended_place t n at c ds s k ending before after w r in
-    let p = pair_at (IsPeer n.desk r.stands.marked) (with_peer j s).peers (kept_in n) at j e r.stands.peers place.here is in
+    let p = pair_at (IsPeer n.core s.history) (with_peer j s).peers (kept_in n) at j e r.stands.peers place.here is in
     let m : AcceptingStands e.1.machine (start_at s.about k) k.events = subst (λ a. AcceptingStands e.1.machine (start_at a k) k.events) r.stands.about p.machine in
     let opened : is_open e.1.machine.stage ≡ true = ap is_open m.stage ∙ w.own.ready in
     let parts = and_parts (is_connected (phase k.events) && not k.held) (due_after s.about s.history k c) w.emptied in
@@ -118,31 +122,30 @@ ended_connected n at c ds s k ending t before after w r = λ e is. (
 
 -- ---- whether it is to be
 
--- What is kept of a peer says whether its outbox is to be emptied.
-pub kept_waits : (t : ScriptHub) (s : State) (at : ℕ) (k : Peer) (c : ℕ) (e : List ℕ × KeptPeer) (cs : List ℕ) (h : ScriptStands t s) → IsAt at k s → slice_get (kept_in t) at ≡ Some e → k.conn ≡ Some c → IsSettledBut cs s.about s.history k → waits_in e.1 ≡ is_emptied s k c
-kept_waits t s at k c e cs h here is conn own =
-    let p = pair_at (IsPeer t.desk h.marked) s.peers (kept_in t) at k e h.peers here is in
-    let m : AcceptingStands e.1.machine (start_at s.about k) k.events = subst (λ a. AcceptingStands e.1.machine (start_at a k) k.events) h.about p.machine in
-    let opened : is_open e.1.machine.stage ≡ true = ap is_open m.stage ∙ own.ready in
-    let in_phase : phase_of e.1.machine ≡ phase k.events = open_phase e.1.machine (start_at s.about k) k.events m opened in
-    by e.1.joined refl p.joined p.held in_phase
-  where
-    by : (o : Option Joined) → e.1.joined ≡ o → IsJoinedIf t.desk h.marked k o → k.held ≡ e.1.held → phase_of e.1.machine ≡ phase k.events → waits_in e.1 ≡ is_emptied s k c
-    by None g q held same = absurd (none_some (sym q.0 ∙ conn))
-      where
-        none_some : None ≡ Some c → ⊥
-        none_some x = cc
-    by (Some j) g q held same =
-        let at_c : j.conn ≡ c = one j.conn c (sym q.0 ∙ conn) in
-        let due : j.waits ≡ due_after s.about s.history k c =
-        q.1.waits ∙ ap (λ n. due_after t.desk.about (entries h.marked) k n) at_c ∙ ap (λ a. due_after a (entries h.marked) k c) h.about ∙ ap (λ H. due_after s.about H k c) h.history in
-        ap (λ o. elim o as (λ (o : Option Joined). Bool) [ None ↦ false | Some x ↦ is_connected (phase_of e.1.machine) && not e.1.held && x.waits ]) g
-        ∙ ap (λ b. is_connected (phase_of e.1.machine) && not e.1.held && b) due
-        ∙ ap (λ b. is_connected (phase_of e.1.machine) && not b && due_after s.about s.history k c) (sym held)
-        ∙ ap (λ b. is_connected b && not k.held && due_after s.about s.history k c) same
-      where
-        one : (a b : ℕ) → Some a ≡ Some b → a ≡ b
-        one a b x = cc
+-- What is kept of a peer says whether its outbox is to be emptied, with what its core says is due.
+pub emptied_by : (t : ScriptHub) (s : State) (at : ℕ) (k : Peer) (c : ℕ) (p : KeptPeer) (due b : Bool) → IsJoinedAt t at c s k → IsOpenPeer s k → KeepsAt t at (λ q. p ≡ q)
+    → ((H : List Entry) (x : Outbox) → CoreStands t.core H → outbox_at t.core c ≡ Some x → due ≡ has_due t.core H c x) → b ≡ (is_connected (phase_of p.machine) && not p.held && due) → b ≡ is_emptied s k c
+emptied_by t s at k c p due b w opened keeps says is =
+    let h = w.stands in
+    let e = partner_of (IsPeer t.core s.history) s.peers (kept_in t) at k h.peers w.here in
+    let q = e.2 in
+    let own = joined_peer t.core s.history k c e.0.1.joined q.joined w.conn in
+    let m : AcceptingStands e.0.1.machine (start_at s.about k) k.events = subst (λ a. AcceptingStands e.0.1.machine (start_at a k) k.events) h.about q.machine in
+    let in_phase : phase_of e.0.1.machine ≡ phase k.events = open_phase e.0.1.machine (start_at s.about k) k.events m (ap is_open m.stage ∙ opened) in
+    let due_is : due ≡ due_after s.about s.history k c =
+    says s.history own.outbox h.core own.there
+    ∙ ap (λ (f : List (List ℕ)). not (length (drop (length f) (sent t.core.about s.history c)) == 0) || is_some (ended s.history c)) own.frames
+    ∙ ap (λ (a : About). due_after a s.history k c) h.about in
+    is ∙ ap (λ (x : KeptPeer). is_connected (phase_of x.machine) && not x.held && due) (keeps e.0 e.1)
+    ∙ ap (λ (y : Phase). is_connected y && not e.0.1.held && due) in_phase
+    ∙ ap (λ (y : Bool). is_connected (phase k.events) && not y && due) (sym q.held)
+    ∙ ap (λ (y : Bool). is_connected (phase k.events) && not k.held && y) due_is
+
+-- Who has joined has an outbox.
+pub may_ask : (t : ScriptHub) (at c : ℕ) (s : State) (k : Peer) → IsJoinedAt t at c s k → HasOutbox t.core c × ((H : List Entry) × CoreStands t.core H)
+may_ask t at c s k w =
+    let e = partner_of (IsPeer t.core s.history) s.peers (kept_in t) at k w.stands.peers w.here in
+    (ap is_some (joined_peer t.core s.history k c e.0.1.joined e.2.joined w.conn).there, (s.history, w.stands.core))
 
 -- ---- who is settled beside
 
@@ -159,14 +162,16 @@ both_of : (P Q R : Peer → Type 0) (ks : List Peer) → ((j : Peer) → P j →
 both_of P Q R [] f p q = tt
 both_of P Q R (k ∷ ks) f p q = (f k p.0 q.0, both_of P Q R ks f p.1 q.1)
 
-beside_take : (P Q : Peer → Type 0) (ks : List Peer) (at : ℕ) (k : Peer) (c : ℕ) → ((j : Peer) → j.conn ≢ Some c → P j → Q j) → ConnsApart ks → slice_get ks at ≡ Some k → k.conn ≡ Some c → AllByRecursion P ks → AllByRecursion Q (take at ks)
+beside_take : (P Q : Peer → Type 0) (ks : List Peer) (at : ℕ) (k : Peer) (c : ℕ) → ((j : Peer) → j.conn ≢ Some c → P j → Q j) → ConnsApart ks → slice_get ks at ≡ Some k
+    → k.conn ≡ Some c → AllByRecursion P ks → AllByRecursion Q (take at ks)
 beside_take P Q [] zero k c f h g e all = tt
 beside_take P Q [] (suc at) k c f h g e all = tt
 beside_take P Q (p ∷ ks) zero k c f h g e all = tt
 beside_take P Q (p ∷ ks) (suc at) k c f h g e all =
     (f p (λ s. In_from_all (λ (j : Peer). (d : ℕ) → p.conn ≡ Some d → j.conn ≡ Some d → ⊥) k ks h.0 (In-at ks at k g) c s e) all.0, beside_take P Q ks at k c f h.1 g e all.1)
 
-beside_drop : (P Q : Peer → Type 0) (ks : List Peer) (at : ℕ) (k : Peer) (c : ℕ) → ((j : Peer) → j.conn ≢ Some c → P j → Q j) → ConnsApart ks → slice_get ks at ≡ Some k → k.conn ≡ Some c → AllByRecursion P ks → AllByRecursion Q (drop (suc at) ks)
+beside_drop : (P Q : Peer → Type 0) (ks : List Peer) (at : ℕ) (k : Peer) (c : ℕ) → ((j : Peer) → j.conn ≢ Some c → P j → Q j) → ConnsApart ks → slice_get ks at ≡ Some k
+    → k.conn ≡ Some c → AllByRecursion P ks → AllByRecursion Q (drop (suc at) ks)
 beside_drop P Q [] at k c f h g e all = tt
 beside_drop P Q (p ∷ ks) zero k c f h g e all =
     both_of (λ (j : Peer). (d : ℕ) → p.conn ≡ Some d → j.conn ≡ Some d → ⊥) P Q ks (λ j a b. f j (λ s. a c (ap conn_of (one p k g) ∙ e) s) b) h.0 all.1
@@ -201,7 +206,8 @@ unopened t s c ds b h g none =
     }))
 
 -- Its outbox isn't to be emptied.
-pub unemptied : (t : ScriptHub) (s : State) (at c : ℕ) (ds b : List ℕ) (k : Peer) → ScriptStands t s → SettledBut (c ∷ ds) s → IsAt at k s → k.conn ≡ Some c → peer_on s c ≡ Some k → is_emptied s k c ≡ false → CarriesOut t b b ds (emptied_on s c)
+pub unemptied : (t : ScriptHub) (s : State) (at c : ℕ) (ds b : List ℕ) (k : Peer) → ScriptStands t s → SettledBut (c ∷ ds) s → IsAt at k s → k.conn ≡ Some c → peer_on s c ≡ Some k
+    → is_emptied s k c ≡ false → CarriesOut t b b ds (emptied_on s c)
 unemptied t s at c ds b k h g here conn on off =
     let own : IsSettledBut (c ∷ ds) s.about s.history k = settled_one at (c ∷ ds) s k g here in
     let rest : IsSettledBut ds s.about s.history k = record {
@@ -217,18 +223,14 @@ unemptied t s at c ds b k h g here conn on off =
     one a b x = cc
 
 -- What is asked where it is to be emptied, and what is carried out then.
-pub to_empty : (t : ScriptHub) (s : State) (at c : ℕ) (ds : List ℕ) (k : Peer) → ScriptStands t s → SettledBut (c ∷ ds) s → IsAt at k s → k.conn ≡ Some c → is_emptied s k c ≡ true → IsToEmpty t at c ds s k
+pub to_empty : (t : ScriptHub) (s : State) (at c : ℕ) (ds : List ℕ) (k : Peer) → ScriptStands t s → SettledBut (c ∷ ds) s → IsAt at k s → k.conn ≡ Some c → is_emptied s k c ≡ true
+    → IsToEmpty t at c ds s k
 to_empty t s at c ds k h g here conn on = record { place = beside_at t s at c ds k h g here conn; conn = conn; own = settled_one at (c ∷ ds) s k g here; emptied = on }
 
-pub emptied_there : (n : ScriptHub) (s : State) (c : ℕ) (ds b a : List ℕ) (k : Peer) → peer_on s c ≡ Some k → is_emptied s k c ≡ true → CarriesOut n b a ds (empties s k c) → CarriesOut n b a ds (emptied_on s c)
+pub emptied_there : (n : ScriptHub) (s : State) (c : ℕ) (ds b a : List ℕ) (k : Peer) → peer_on s c ≡ Some k → is_emptied s k c ≡ true → CarriesOut n b a ds (empties s k c)
+    → CarriesOut n b a ds (emptied_on s c)
 emptied_there n s c ds b a k on due h =
     subst (λ o. CarriesOut n b a ds (emptied_if s c o)) (sym on) (subst (λ (u : Bool). CarriesOut n b a ds (cond u (empties s k c) (quietly s))) (sym due) h)
-
--- What is kept at the place says whether the outbox of its peer is to be emptied.
-pub due_by : (t : ScriptHub) (s : State) (at : ℕ) (k : Peer) (c : ℕ) (cs : List ℕ) (p : KeptPeer) (b : Bool) → ScriptStands t s → SettledBut cs s → IsAt at k s → k.conn ≡ Some c → KeepsAt t at (λ q. p ≡ q) → b ≡ waits_in p → is_emptied s k c ≡ b
-due_by t s at k c cs p b h g here conn keeps says =
-    let own = partner_of (IsPeer t.desk h.marked) s.peers (kept_in t) at k h.peers here in
-    sym (says ∙ ap waits_in (keeps own.0 own.1) ∙ kept_waits t s at k c own.0 cs h here own.1 conn (settled_one at cs s k g here))
 
 get_within : (ks : List Peer) (at : ℕ) (k : Peer) → slice_get ks at ≡ Some k → at < length ks
 get_within [] at k h = cc

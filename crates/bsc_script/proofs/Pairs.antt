@@ -2,8 +2,10 @@
 use Rattle.std.proofs.Common.{◌≡◌, ◌≢◌, inl, inr, ℕ, zero, suc, ◌+◌, nat_lt, Bool, true, false, not, cond, List, [], ◌∷◌, ◌++◌, length, map, set, take, drop, remove, find, position, slice_get, Option, Some, None, option_map, refl, ap, sym, ◌∙◌, subst, arith}
 use Rattle.std.specs.List.{AllByRecursion, prefix_len, position_or_len}
 use Rattle.bsc_history.specs.Laws.{Apart}
-use Rattle.bsc_history.proofs.Lists.{In}
-use Rattle.bsc_script.specs.Holding.{Pairs}
+use Rattle.bsc_history.proofs.Lists.{In, In_from_all}
+use Rattle.bsc_script.specs.declared.peer.Peer.{Peer as KeptPeer}
+use Rattle.bsc_script.specs.States.{Peer}
+use Rattle.bsc_script.specs.Holding.{ConnsApart, Pairs}
 use Rattle.bsc_lemmas.proofs.Lists.{all_append as all-push, position-cons}
 use Rattle.std.proofs.lemmas.Option.{same_Some as same_some}
 
@@ -39,6 +41,13 @@ Pairs-weaker R Q [] [] f p = tt
 Pairs-weaker R Q [] (b ∷ ys) f p = absurd p
 Pairs-weaker R Q (a ∷ xs) [] f p = absurd p
 Pairs-weaker R Q (a ∷ xs) (b ∷ ys) f p = (f a b (inl refl) p.0, Pairs-weaker R Q xs ys (λ x y m. f x y (inr m)) p.1)
+
+-- what holds of each that has a partner
+pub Pairs-all : {A B : Type 0} (R : A → B → Type 0) (P : A → Type 0) (xs : List A) (ys : List B) → ((x : A) (y : B) → R x y → P x) → Pairs R xs ys → AllByRecursion P xs
+Pairs-all R P [] [] f p = tt
+Pairs-all R P [] (b ∷ ys) f p = absurd p
+Pairs-all R P (a ∷ xs) [] f p = absurd p
+Pairs-all R P (a ∷ xs) (b ∷ ys) f p = (f a b p.0, Pairs-all R P xs ys f p.1)
 
 pub Pairs-set : {A B : Type 0} (R : A → B → Type 0) (xs : List A) (ys : List B) (i : ℕ) (x : A) (y : B) → Pairs R xs ys → R x y → Pairs R (set xs i x) (set ys i y)
 Pairs-set R [] [] i x y p h = tt
@@ -202,3 +211,20 @@ position-gives {A} p (x ∷ xs) i h = by (p x) refl (λ n e. position-gives p xs
         let first : Some 0 ≡ Some i = sym (position-cons p x xs ∙ ap (λ (b : Bool). cond b (Some 0) (option_map (λ n. 1 + n) (position p xs))) f) ∙ h in
         (x, subst (λ m. slice_get (x ∷ xs) m ≡ Some x) (same_some 0 i first) refl, f, ap (λ (b : Bool). cond b (Some x) (find p xs)) f)
     by false f rec = later rec (position p xs) refl (sym (position-cons p x xs ∙ ap (λ (b : Bool). cond b (Some 0) (option_map (λ n. 1 + n) (position p xs))) f) ∙ h) f
+
+-- Of peers with connections that are apart, all but the one with c are paired, and the changed one is paired at its place.
+pub but_one : (Q : Peer → (List ℕ × KeptPeer) → Type 0) (c : ℕ) (ks : List Peer) (es : List (List ℕ × KeptPeer)) (at : ℕ) (k j : Peer) (e : List ℕ × KeptPeer) → ConnsApart ks → Pairs (λ p x. (p.conn ≡ Some c → ⊥) → Q p x) ks es → slice_get ks at ≡ Some k → k.conn ≡ Some c → slice_get es at ≡ Some e → Q j e → Pairs Q (set ks at j) es
+but_one Q c [] es at k j e apart h g own there new = cc
+but_one Q c (p ∷ ks) [] at k j e apart h g own there new = absurd h
+but_one Q c (p ∷ ks) (x ∷ es) zero k j e apart h g own there new =
+    (subst (Q j) (sym (same_some x e there)) new, rest ks es h.1 apart.0 (ap (λ (r : Peer). r.conn) (same_some p k g) ∙ own))
+  where
+    rest : (js : List Peer) (xs : List (List ℕ × KeptPeer)) → Pairs (λ r y. (r.conn ≡ Some c → ⊥) → Q r y) js xs → AllByRecursion (λ (j : Peer). (d : ℕ) → p.conn ≡ Some d → j.conn ≡ Some d → ⊥) js → p.conn ≡ Some c → Pairs Q js xs
+    rest [] [] f a s = tt
+    rest [] (y ∷ xs) f a s = absurd f
+    rest (j ∷ js) [] f a s = absurd f
+    rest (j ∷ js) (y ∷ xs) f a s = (f.0 (a.0 c s), rest js xs f.1 a.1 s)
+but_one Q c (p ∷ ks) (x ∷ es) (suc at) k j e apart h g own there new = (
+  h.0 (λ mine. In_from_all (λ (j : Peer). (d : ℕ) → p.conn ≡ Some d → j.conn ≡ Some d → ⊥) k ks apart.0 (In-at ks at k g) c mine own),
+  but_one Q c ks es at k j e apart.1 h.1 g own there new,
+)

@@ -60,10 +60,10 @@ asked_of n at m phase max now s k v es x y Nothing judged own is stands left was
 -- The machine of the peer at a place is told a message: its step is to be carried out.
 pub awaits : (t n : ScriptHub) (s : State) (at : ℕ) (m : List ℕ) (k : Peer) (x : Vec ℕ Global × KeptPeer) (v : Verdict) (machine : Accepting) (step : Step) (phase : Phase) (max : ℕ)
     → ScriptHolds t s → IsAt at k s → slice_get t.peers.entries at ≡ Some x → AcceptingAnswers x.1.machine machine (Came t.clock v) step → LeavesAccepting step machine → Judged m (HubPort phase) max v
-    → n.desk ≡ t.desk → n.about ≡ t.about → n.clock ≡ t.clock → n.names ≡ t.names → n.peers ≡ with_value_at t.peers at (record x.1 { machine = machine })
+    → n.core ≡ t.core → n.about ≡ t.about → n.clock ≡ t.clock → n.names ≡ t.names → n.peers ≡ with_value_at t.peers at (record x.1 { machine = machine })
     → AwaitsStep n at m (with_peer (told (Came t.clock v) k) s) (told (Came t.clock v) k) step × (step ≡ step_of s k (Came t.clock v))
-awaits t n s at m k x v machine step phase max h here was answers left judged desk about clock names new =
-    let a = told_at t n s at [] k x (Came t.clock v) machine step (at_settled t at [] s k h.0 h.1 here) was answers desk about clock names new in (
+awaits t n s at m k x v machine step phase max h here was answers left judged core about clock names new =
+    let a = told_at t n s at [] k x (Came t.clock v) machine step (at_settled t at [] s k h.0 h.1 here) was answers core about clock names new in (
       (
         a.0,
         asked_of n at m phase max t.clock s k v (kept_in t) (kept x) (x.0.items, record x.1 { machine = machine }) step judged (settled_one at [] s k h.1 here) a.1 a.2 left

@@ -7,24 +7,22 @@ use Rattle.bsc_history.specs.declared.connection.Connection.{Connection}
 use Rattle.bsc_history.specs.declared.ending.End.{End}
 use Rattle.bsc_history.specs.Ends.{ended, is_one, unleft}
 use Rattle.bsc_history.specs.Laws.{Apart, is_among}
-use Rattle.bsc_history.specs.Legality.{is_of}
-use Rattle.bsc_history.specs.Marks.{entries}
 use Rattle.bsc_history.specs.Replies.{numbers}
 use Rattle.bsc_history.proofs.Lists.{In, In_from_all}
 use Rattle.bsc_accept.specs.declared.event.Event.TheVariants.{Ended}
 use Rattle.bsc_accept.specs.declared.step.Step.{Step}
 use Rattle.bsc_accept.specs.Steps.{closes}
-use Rattle.bsc_script.specs.declared.peer.Joined.{Joined}
 use Rattle.bsc_script.specs.declared.script_hub.ScriptHub.{ScriptHub}
 use Rattle.bsc_script.specs.States.{State, Peer, has_joined_as, peer_on, told, with_peer}
 use Rattle.bsc_script.specs.Carrying.{ScriptOutcome, quietly, and_then, does, step_of}
 use Rattle.bsc_script.specs.Emptying.{OnConnection, is_emptied, unwritten, given_frames, found_empty, ends_as, empties, emptied_one, emptied, emptied_if, emptied_on}
 use Rattle.bsc_script.specs.Settled.{IsSettledBut, SettledBut, ascends}
-use Rattle.bsc_script.specs.Holding.{IsJoinedIf, IsPeer, ScriptStands, CarriesOut, name_of, kept_in, ConnsApart}
-use Rattle.bsc_script.proofs.Pairs.{partner_of, map-set, Apart-same}
+use Rattle.bsc_script.specs.Holding.{ScriptStands, CarriesOut, name_of, kept_in, ConnsApart}
+use Rattle.bsc_script.proofs.Pairs.{map-set, Apart-same}
 use Rattle.bsc_script.proofs.Peers.{changed, has_conn, found_conn, find-remove}
 use Rattle.bsc_script.proofs.Carried.{both_carried, closing_peers, other_peers}
-use Rattle.bsc_script.proofs.Sending.{rows_ascend}
+use Rattle.bsc_script.proofs.Entered.{Owns, owners}
+use Rattle.bsc_script.proofs.Sending.{unleft_ascends}
 use Rattle.bsc_lemmas.proofs.Lists.{get-set}
 
 -- ---- one outbox is emptied, and the other names stand as before
@@ -184,12 +182,10 @@ pub record Round (s : State) (o now : ScriptOutcome) (ns ds : List ℕ) : Type 0
 pub round_begins : (t : ScriptHub) (o : ScriptOutcome) (cs : List ℕ) → ScriptStands t o.state → Round o.state o o (numbers (unleft o.state.history)) cs
 round_begins t o cs h =
     let s = o.state in
-    let order : ascends (numbers (unleft (entries h.marked))) ≡ true =
-    ap (λ (l : List Connection). ascends (numbers l)) (sym h.stands.unleft_rows) ∙ sym (rows_ascend t.desk.rows.items) ∙ t.desk.filed.rising in
     record {
       same = ap (fold emptied_one o) (in_pieces s (unleft s.history) h.conns);
       kept = all_same (numbers (unleft s.history));
-      order = subst (λ H. ascends (numbers (unleft H)) ≡ true) h.history order;
+      order = unleft_ascends t s h;
       whole = λ d due some. open_among (peer_on s d) d refl some;
     }
   where
@@ -204,23 +200,11 @@ round_begins t o cs h =
       | inr later ↦ or_right (x.number == d) (is_among d (numbers xs)) (number_among d xs later)
     ]
 
-    joined_as : (d : ℕ) (k : Peer) (j : Option Joined) → IsJoinedIf t.desk h.marked k j → k.conn ≡ Some d → is_of (entries h.marked) 0 d ≡ true
-    joined_as d k None p e = absurd (none_some (sym p.0 ∙ e))
-      where
-        none_some : None ≡ Some d → ⊥
-        none_some g = cc
-    joined_as d k (Some j) p e = subst (λ c. is_of (entries h.marked) 0 c ≡ true) (one j.conn d (sym p.0 ∙ e)) p.1.joiner
-      where
-        one : (a b : ℕ) → Some a ≡ Some b → a ≡ b
-        one a b g = cc
-
     open_among : (p : Option Peer) (d : ℕ) → peer_on o.state d ≡ p → is_some (peer_on o.state d) ≡ true → is_among d (numbers (unleft o.state.history)) ≡ true
     open_among None d e some = absurd (true≢false (sym some ∙ ap is_some e))
     open_among (Some k) d e some =
         let f = found_conn d k o.state.peers e in
-        let at = place_of o.state.peers k f.1 in
-        let q = partner_of (IsPeer t.desk h.marked) o.state.peers (kept_in t) at.0 k h.peers at.1 in
-        number_among d (unleft o.state.history) (subst (λ H. is_of H 0 d ≡ true) h.history (joined_as d k q.0.1.joined q.2.joined f.0))
+        number_among d (unleft o.state.history) (In_from_all (Owns o.state.history) k o.state.peers (owners t.core o.state.history o.state.peers (kept_in t) h.peers) f.1 d f.0)
 
 -- It ends where nobody is due.
 pub round_ends : (s : State) (o now : ScriptOutcome) (ns : List ℕ) → SettledBut [] now.state → Round s o now ns [] → emptied o ≡ now

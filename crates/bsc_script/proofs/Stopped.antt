@@ -1,45 +1,34 @@
 -- The hub stops, and counts.
-use Rattle.std.proofs.Common.{◌≡◌, ◌⊎◌, inl, inr, ℕ, ◌==◌, ◌≤◌, nat_lt, Bool, true, false, ◌&&◌, ◌||◌, cond, List, [], ◌∷◌, ◌++◌, length, map, find, Option, Some, None, is_some, refl, ap, sym, ◌∙◌, subst, append-nil}
-use Rattle.std.specs.Prelude.{◌↔◌, codes, Result, Ok, Err, IfOk, OnOk}
+use Rattle.std.proofs.Common.{◌≡◌, inl, inr, ℕ, ◌==◌, nat_lt, Bool, true, false, cond, List, [], ◌∷◌, ◌++◌, is_some, refl, ap, sym, ◌∙◌, subst}
+use Rattle.std.specs.Prelude.{codes, Result, Ok, Err, IfOk, OnOk}
 use Rattle.std.specs.List.{AllByRecursion, list_all, list_any}
 use Rattle.std.specs.List.Sorted.{IsStrictlySortedBy}
 use Rattle.std.specs.Ordering.{nat_cmp, eq_by_cmp, is_eq}
-use Rattle.std.specs.declared.cmp.Ordering.{Ordering}
 use Rattle.std.specs.declared.cmp.Ordering.TheVariants.{Less, Equal, Greater}
-use Rattle.std.specs.Option.{option_map}
-use Rattle.std.specs.BTreeMap.{get}
-use Rattle.std.proofs.lemmas.Bool.{and_from, and_parts, or_cases, or_left, or_right, eq-eqb, eqb-true}
+use Rattle.std.proofs.lemmas.Bool.{and_from, or_cases, or_left, or_right, eq-eqb, eqb-true}
 use Rattle.std.proofs.lemmas.Map.Keys.{sorted_head, sorted_tail}
-use Rattle.bsc_history.specs.declared.limits.About.{About}
 use Rattle.bsc_history.specs.declared.call.Call.TheVariants.{Stop, Count}
-use Rattle.bsc_history.specs.declared.connection.Connection.{Connection}
 use Rattle.bsc_history.specs.declared.counts.Counts.{Counts}
-use Rattle.bsc_history.specs.declared.entry.Entry.{Entry}
-use Rattle.bsc_history.specs.declared.mark.Stamped.{Stamped}
 use Rattle.bsc_history.specs.Counting.{counts}
-use Rattle.bsc_history.specs.Ends.{unleft}
 use Rattle.bsc_history.specs.Laws.{is_among}
 use Rattle.bsc_history.specs.Legality.{is_of}
-use Rattle.bsc_history.specs.Marks.{entries}
 use Rattle.bsc_history.specs.Replies.{is_stopped}
-use Rattle.bsc_desk.specs.Entries.{count_entry, stop_entry, plain}
-use Rattle.bsc_desk.specs.Standing.{DeskStands}
+use Rattle.bsc_desk.specs.Entries.{count_entry, stop_entry}
+use Rattle.bsc_hub_core.specs.Calls.{CountsAs, StopsAs}
+use Rattle.bsc_hub_core.proofs.Forwards.{own_unleft}
 use Rattle.bsc_script.specs.declared.script_hub.ScriptHub.{ScriptHub}
-use Rattle.bsc_script.specs.Written.{says, line_text, text_of}
+use Rattle.bsc_script.specs.Written.{line_text}
 use Rattle.bsc_lines.specs.Replies.{counts_words}
-use Rattle.bsc_script.specs.States.{State, Peer, peer_on}
-use Rattle.bsc_script.specs.Calls.{called, entry_in, is_worn}
+use Rattle.bsc_script.specs.States.{State, peer_on}
+use Rattle.bsc_script.specs.Calls.{called, is_worn}
 use Rattle.bsc_script.specs.Carrying.{ScriptOutcome, quietly, writes}
 use Rattle.bsc_script.specs.Running.{hub_says, says_counts, stops}
-use Rattle.bsc_script.specs.Settled.{IsSettledBut, SettledBut, ascends}
-use Rattle.bsc_script.specs.Holding.{ScriptHolds, ScriptStands, CarriesOut, kept_in, name_of}
-use Rattle.bsc_script.specs.Between.{AreConnections, StandsBut}
-use Rattle.bsc_script.proofs.Between.{Changes, stands_more, stands_whole}
-use Rattle.bsc_script.proofs.Carried.{quiet_carried}
-use Rattle.bsc_script.proofs.Entered.{changes_quiet, changes_stop, exact_entry, newest_lawful, owners}
-use Rattle.bsc_script.proofs.Meetings.{own_any}
+use Rattle.bsc_script.specs.Settled.{ascends}
+use Rattle.bsc_script.specs.Holding.{ScriptHolds, CarriesOut}
+use Rattle.bsc_script.specs.Between.{AreConnections}
+use Rattle.bsc_script.proofs.Carried.{line_carried, quiet_carried}
+use Rattle.bsc_script.proofs.Entered.{KeepsElse, MakesEntry, changes_all, changes_by, entered, exact_entry, lawful_at, legal_at, makes_same, stands_same, worn_is}
 use Rattle.bsc_script.proofs.Peers.{some_name}
-use Rattle.bsc_script.proofs.Sending.{MakesEntry, all_settled, stands_same, worn_as}
 
 -- ---- numbers that ascend
 
@@ -77,76 +66,49 @@ member_among q (k ∷ ks) h = elim (or_cases (eq_by_cmp nat_cmp q k) (list_any (
 -- ---- counts
 
 -- The hub told its counts.
-pub counted : (t u : ScriptHub) (s : State) (k : Counts) (before after : List ℕ) → ScriptHolds t s → MakesEntry t u (plain (count_entry 0 k)) → ((S : List Stamped) → DeskStands t.desk S → k ≡ counts (entries S)) → is_worn s ≡ false → after ≡ before ++ line_text (hub_says (counts_words k)) → CarriesOut u before after [] (says_counts s)
-counted t u s k before after w e due fresh wrote =
+pub counted : (t u : ScriptHub) (s : State) (k : Counts) (before after : List ℕ) → ScriptHolds t s → KeepsElse t u → CountsAs s.history 0 (Ok k) t.core u.core
+    → after ≡ before ++ line_text (hub_says (counts_words k)) → CarriesOut u before after [] (says_counts s)
+counted t u s k before after w rest x wrote =
     let h = w.0 in
-    let x = count_entry 0 k in
-    let z : State = record s { history = s.history ++ x ∷ [] } in
-    let lawful = newest_lawful t.desk u.desk h.marked (plain x) e.desk_about (e.stands h.marked h.stands) in
-    let changes : Changes [] t.desk.about (entries h.marked) x = changes_quiet t.desk.about (entries h.marked) x h.stands.legal lawful refl (λ c. refl) refl (λ c. refl) in
-    let stands : ScriptStands u z = stands_whole u z (stands_more t u s h (plain x) [] e.same_about e.same_clock e.same_peers e.same_names e.desk_about (e.stands h.marked h.stands) e.learns changes refl) in
-    let exact : x ≡ entry_in s Count = exact_entry t u s h x u.desk refl lawful e.learns stands in
-    let settled : SettledBut [] z = record { peers = all_settled t s h [] x changes s.peers (owners t.desk h.marked s.peers (kept_in t) h.peers) w.1.peers; order = refl } in
-    let same : k ≡ counts s.history = due h.marked h.stands ∙ ap counts h.history in
-    let o : ScriptOutcome = writes (hub_says (counts_words (counts s.history))) (quietly (called s Count)) in
-    let done : CarriesOut u before after [] o = record {
-      stands = subst (λ (y : Entry). ScriptStands u (record s { history = s.history ++ y ∷ [] })) exact stands;
-      settled = subst (λ (y : Entry). SettledBut [] (record s { history = s.history ++ y ∷ [] })) exact settled;
-      text = wrote ∙ ap (λ (n : Counts). before ++ line_text (hub_says (counts_words n))) same ∙ ap (λ (l : List ℕ). before ++ l) (sym (append-nil (line_text (hub_says (counts_words (counts s.history))))));
-    } in
-    subst (λ (b : Bool). CarriesOut u before after [] (cond b (writes (hub_says (codes "worn")) (quietly s)) o)) (sym fresh) done
+    let H = s.history in
+    let e = count_entry 0 k in
+    let made : MakesEntry t u H e = makes_same t u H e rest x.2.about x.2.stands x.2.same in
+    let line = hub_says (counts_words (counts H)) in
+    let o : ScriptOutcome = writes line (quietly (called s Count)) in
+    let done : CarriesOut u before after [] o = entered t u s e Count [] before after line h made (λ b. refl) refl (exact_entry t u s e h made refl refl) (changes_by s.about H e (legal_at t s h) (lawful_at t u s e h made) refl (λ b. refl)) w.1 refl
+    (wrote ∙ ap (λ (n : Counts). before ++ line_text (hub_says (counts_words n))) x.1) in
+    subst (λ (b : Bool). CarriesOut u before after [] (cond b (writes (hub_says (codes "worn")) (quietly s)) o)) (sym (worn_is t s false h x.0)) done
 
 -- A worn hub tells none.
-pub counted_worn : (u : ScriptHub) (s : State) (before after : List ℕ) → ScriptStands u s → SettledBut [] s → is_worn s ≡ true → after ≡ before ++ line_text (hub_says (codes "worn")) → CarriesOut u before after [] (says_counts s)
-counted_worn u s before after h own worn wrote =
-    let l = line_text (hub_says (codes "worn")) in
-    let done : CarriesOut u before after [] (writes (hub_says (codes "worn")) (quietly s)) = record { stands = h; settled = own; text = wrote ∙ ap (λ (m : List ℕ). before ++ m) (sym (append-nil l)) } in
-    subst (λ (b : Bool). CarriesOut u before after [] (cond b (writes (hub_says (codes "worn")) (quietly s)) (writes (hub_says (counts_words (counts s.history))) (quietly (called s Count))))) (sym worn) done
+pub counted_worn : (t u : ScriptHub) (s : State) (before after : List ℕ) → ScriptHolds t s → KeepsElse t u → u.core ≡ t.core → is_worn s ≡ true
+    → after ≡ before ++ line_text (hub_says (codes "worn")) → CarriesOut u before after [] (says_counts s)
+counted_worn t u s before after w rest core worn wrote =
+    subst (λ (b : Bool). CarriesOut u before after [] (cond b (writes (hub_says (codes "worn")) (quietly s)) (writes (hub_says (counts_words (counts s.history))) (quietly (called s Count))))) (sym worn)
+    (line_carried u before after after [] (hub_says (codes "worn")) (quietly s) wrote (quiet_carried u after [] s (stands_same t u s rest core w.0) w.1))
 
 -- ---- a stop
 
--- whoever hasn't left is among those that have a name
-all_among : (t : ScriptHub) (s : State) (h : ScriptStands t s) (cs : List ℕ) → AreConnections t cs → (c : ℕ) → is_of (entries h.marked) 0 c ≡ true → is_among c cs ≡ true
-all_among t s h cs all c own =
-    let any : list_any (λ x. x.number == c) (unleft s.history) ≡ true = ap (λ (H : List Entry). list_any (λ x. x.number == c) (unleft H)) (sym h.history) ∙ own_any (entries h.marked) 0 c own in
-    all.all c (ap is_some (h.names c) ∙ some_name (peer_on s c) ∙ h.joined c any)
-
-stop_changes : (t u : ScriptHub) (s : State) (h : ScriptStands t s) (k : Counts) (cs : List ℕ) → AreConnections t cs → MakesEntry t u (plain (stop_entry 0 k)) → Changes cs t.desk.about (entries h.marked) (stop_entry 0 k)
-stop_changes t u s h k cs all e =
-    let lawful = newest_lawful t.desk u.desk h.marked (plain (stop_entry 0 k)) e.desk_about (e.stands h.marked h.stands) in
-    changes_stop cs t.desk.about (entries h.marked) (stop_entry 0 k) lawful refl (all_among t s h cs all)
-
--- After the call the hub stands but for everybody.
-pub stop_between : (t u : ScriptHub) (s : State) (h : ScriptStands t s) (k : Counts) (cs : List ℕ) → AreConnections t cs → MakesEntry t u (plain (stop_entry 0 k)) → StandsBut cs u (record s { history = s.history ++ stop_entry 0 k ∷ [] })
-stop_between t u s h k cs all e =
-    stands_more t u s h (plain (stop_entry 0 k)) cs e.same_about e.same_clock e.same_peers e.same_names e.desk_about (e.stands h.marked h.stands) e.learns (stop_changes t u s h k cs all e) refl
-
--- After the meetings it has stopped.
-pub stopped : (t u v : ScriptHub) (s : State) (k : Counts) (cs before after : List ℕ) → ScriptHolds t s → MakesEntry t u (plain (stop_entry 0 k)) → AreConnections t cs → ((S : List Stamped) → DeskStands t.desk S → k ≡ counts (entries S)) → is_stopped s.history ≡ false → ((z : State) → StandsBut cs u z → ScriptStands v z) → after ≡ before ++ line_text (hub_says (counts_words k)) → CarriesOut v before after cs (stops s)
-stopped t u v s k cs before after w e all due fresh meets wrote =
+-- It has stopped.
+pub stopped : (t u : ScriptHub) (s : State) (k : Counts) (cs before after : List ℕ) → ScriptHolds t s → KeepsElse t u → AreConnections t cs
+    → StopsAs s.history 0 (Ok k) t.core u.core → after ≡ before ++ line_text (hub_says (counts_words k)) → CarriesOut u before after cs (stops s)
+stopped t u s k cs before after w rest all x wrote =
     let h = w.0 in
-    let x = stop_entry 0 k in
-    let z : State = record s { history = s.history ++ x ∷ [] } in
-    let lawful = newest_lawful t.desk u.desk h.marked (plain x) e.desk_about (e.stands h.marked h.stands) in
-    let changes = stop_changes t u s h k cs all e in
-    let stands : ScriptStands v z = meets z (stop_between t u s h k cs all e) in
-    let exact : x ≡ entry_in s Stop = exact_entry t v s h x u.desk refl lawful e.learns stands in
-    let settled : SettledBut cs z = record { peers = all_settled t s h cs x changes s.peers (owners t.desk h.marked s.peers (kept_in t) h.peers) w.1.peers; order = all.order } in
-    let same : k ≡ counts s.history = due h.marked h.stands ∙ ap counts h.history in
-    let o : ScriptOutcome = writes (hub_says (counts_words (counts s.history))) (quietly (called s Stop)) in
-    let done : CarriesOut v before after cs o = record {
-      stands = subst (λ (y : Entry). ScriptStands v (record s { history = s.history ++ y ∷ [] })) exact stands;
-      settled = subst (λ (y : Entry). SettledBut cs (record s { history = s.history ++ y ∷ [] })) exact settled;
-      text = wrote ∙ ap (λ (n : Counts). before ++ line_text (hub_says (counts_words n))) same ∙ ap (λ (l : List ℕ). before ++ l) (sym (append-nil (line_text (hub_says (counts_words (counts s.history))))));
-    } in
-    subst (λ (b : Bool). CarriesOut v before after cs (cond b (writes (hub_says (codes "stopped already")) (quietly s)) o)) (sym fresh) done
+    let H = s.history in
+    let e = stop_entry 0 k in
+    let made : MakesEntry t u H e = makes_same t u H e rest x.2.about x.2.stands x.2.same in
+    let among : (c : ℕ) → is_of H 0 c ≡ true → is_among c cs ≡ true = λ c own. all.all c (ap is_some (h.names c) ∙ some_name (peer_on s c) ∙ h.joined c (own_unleft H 0 c own)) in
+    let line = hub_says (counts_words (counts H)) in
+    let o : ScriptOutcome = writes line (quietly (called s Stop)) in
+    let done : CarriesOut u before after cs o = entered t u s e Stop cs before after line h made (λ b. refl) refl (exact_entry t u s e h made refl refl) (changes_all cs s.about H e among) w.1 all.order
+    (wrote ∙ ap (λ (n : Counts). before ++ line_text (hub_says (counts_words n))) x.1) in
+    subst (λ (b : Bool). CarriesOut u before after cs (cond b (writes (hub_says (codes "stopped already")) (quietly s)) o)) (sym x.0) done
 
 -- It had stopped before.
-pub stopped_already : (u : ScriptHub) (s : State) (before after : List ℕ) → ScriptStands u s → SettledBut [] s → is_stopped s.history ≡ true → after ≡ before ++ line_text (hub_says (codes "stopped already")) → CarriesOut u before after [] (stops s)
-stopped_already u s before after h own is wrote =
-    let l = line_text (hub_says (codes "stopped already")) in
-    let done : CarriesOut u before after [] (writes (hub_says (codes "stopped already")) (quietly s)) = record { stands = h; settled = own; text = wrote ∙ ap (λ (m : List ℕ). before ++ m) (sym (append-nil l)) } in
-    subst (λ (b : Bool). CarriesOut u before after [] (cond b (writes (hub_says (codes "stopped already")) (quietly s)) (writes (hub_says (counts_words (counts s.history))) (quietly (called s Stop))))) (sym is) done
+pub stopped_already : (t u : ScriptHub) (s : State) (before after : List ℕ) → ScriptHolds t s → KeepsElse t u → u.core ≡ t.core → is_stopped s.history ≡ true
+    → after ≡ before ++ line_text (hub_says (codes "stopped already")) → CarriesOut u before after [] (stops s)
+stopped_already t u s before after w rest core is wrote =
+    subst (λ (b : Bool). CarriesOut u before after [] (cond b (writes (hub_says (codes "stopped already")) (quietly s)) (writes (hub_says (counts_words (counts s.history))) (quietly (called s Stop))))) (sym is)
+    (line_carried u before after after [] (hub_says (codes "stopped already")) (quietly s) wrote (quiet_carried u after [] s (stands_same t u s rest core w.0) w.1))
 
 -- What is put where it can be is carried on.
 pub on_put : {X E P Q : Type 0} (r : Result X E) → IfOk r (λ x. P) → (P → Q) → OnOk r Q

@@ -15,7 +15,7 @@ use Rattle.bsc_script.specs.Running.{ticks, ticks_one, latest}
 use Rattle.bsc_script.specs.Settled.{SettledBut}
 use Rattle.bsc_script.specs.Holding.{ScriptStands, StandsAt, ScriptHolds, IsAt, CarriesOut, ArePeers, kept_in, name_of}
 use Rattle.bsc_script.proofs.Pairs.{drop-set}
-use Rattle.bsc_desk.specs.Standing.{DeskStands}
+use Rattle.bsc_hub_core.specs.Standing.{CoreStands}
 use Rattle.std.specs.Ordering.{nat_cmp}
 use Rattle.std.specs.BTreeMap.{get}
 use Rattle.bsc_script.proofs.Changes.{kept, indexed, peers_changed, some_at}
@@ -70,16 +70,14 @@ pub record Ticks (before b : List ℕ) (ms : ℕ) (t : ScriptHub) (at : ℕ) (s 
   pub rest : drop at (after s ms done).state.peers ≡ todo
 
 -- The clock is set, and nobody was told.
-pub ticks_begin : (t n : ScriptHub) (before : List ℕ) (ms : ℕ) (s : State) → ScriptHolds t s → n.desk ≡ t.desk → n.about ≡ t.about → n.clock ≡ ms → n.names ≡ t.names → n.peers ≡ t.peers → Ticks before before ms n 0 s
-ticks_begin t n before ms s h desk about clock names peers =
+pub ticks_begin : (t n : ScriptHub) (before : List ℕ) (ms : ℕ) (s : State) → ScriptHolds t s → n.core ≡ t.core → n.about ≡ t.about → n.clock ≡ ms → n.names ≡ t.names → n.peers ≡ t.peers → Ticks before before ms n 0 s
+ticks_begin t n before ms s h core about clock names peers =
     let stands : ScriptStands n (record s { clock = ms }) = record {
-      marked = h.0.marked;
-      history = h.0.history;
-      stands = subst (λ d. DeskStands d h.0.marked) (sym desk) h.0.stands;
-      about = ap (λ d. d.about) desk ∙ h.0.about;
+      core = subst (λ d. CoreStands d s.history) (sym core) h.0.core;
+      about = ap (λ d. d.about) core ∙ h.0.about;
       same_hub = about ∙ h.0.same_hub;
       clock = clock;
-      peers = subst (λ d. ArePeers d h.0.marked s.peers (kept_in n)) (sym desk) (subst (λ m. ArePeers t.desk h.0.marked s.peers (map kept m.entries)) (sym peers) h.0.peers);
+      peers = subst (λ d. ArePeers d s.history s.peers (kept_in n)) (sym core) (subst (λ m. ArePeers t.core s.history s.peers (map kept m.entries)) (sym peers) h.0.peers);
       apart = h.0.apart;
       conns = h.0.conns;
       names = λ c. ap (λ m. get nat_cmp m c) names ∙ h.0.names c;

@@ -10,12 +10,11 @@ ghost use Rattle.bsc_script.specs.Holding.{IsOfSome, StandsAt, KeepsAt, CarriesO
 ghost use Rattle.bsc_script.specs.Between.{Seats};
 
 use crate::due::Due;
-use crate::peer::Joined;
 use crate::replies::{put_joined, put_refusal};
 use crate::script_hub::ScriptHub;
 use crate::texts::put_line;
 use bsc_accept::Closing;
-use bsc_desk::{NoRow, make};
+use bsc_hub_core::Connected;
 use bsc_octets::{Identity, NoMemory};
 use bsc_text::copy_of;
 use std::alloc::Global;
@@ -32,15 +31,14 @@ impl ScriptHub {
         self.close(at, Closing::HUB_WORN, text)
     }
 
-    /// The peer at a place gets what it has once it has joined, and its name stands with its connection.
-    fn seat(&mut self, alloc: Global, at: usize, joined: Joined) -> Result<(), NoMemory>
+    /// The peer at a place has joined as a connection, and its name stands with that.
+    fn seat(&mut self, alloc: Global, at: usize, conn: u64) -> Result<(), NoMemory>
         requires within { at < index_map_len self.old.peers }
-        ensures { OnOk result (Seats self.old self.new at joined) }
+        ensures { OnOk result (Seats self.old self.new at conn) }
     {
-        let conn = joined.conn;
         let (key, peer) = self.peers.pair_mut(at);
         let name = copy_of(alloc, key.as_slice())?;
-        peer.joined = Some(joined);
+        peer.joined = Some(conn);
         match self.names.insert(conn, name) {
             Ok(_) => Ok(()),
             Err(_) => Err(NoMemory),
@@ -63,27 +61,19 @@ impl ScriptHub {
         ensures { (s : State) (k : PeerOf) → StandsAt self.old at [] s k → k.conn ≡ None → IfOk result (λ due.
             CarriesOut self.new text.old.items text.new.items (dues due) (connects s k who.now)) }
     {
-        let (inlet, outlet) = make(alloc, self.about.limits.outbox)?;
-        match self.desk.connect(0, *who, inlet) {
-            Ok(row) => {
+        match self.core.connect(alloc, 0, *who)? {
+            Connected::Joined(row) => {
                 put_joined(text, self.name_at(at), row)?;
-                let joined = Joined {
-                    conn: row.conn,
-                    vmac: who.vmac,
-                    outlet,
-                    waits: false,
-                };
-                self.seat(alloc, at, joined)?;
+                self.seat(alloc, at, row.conn)?;
                 let due = Due::by_join(row.replaced);
-                self.note(&due);
                 self.tell_joined(alloc, at, text)?;
                 Ok(due)
             }
-            Err((NoRow::Worn(_), _)) => {
+            Connected::Worn => {
                 self.wear(at, text)?;
                 Ok(Due::Nobody)
             }
-            Err((NoRow::Refused(refusal), _)) => {
+            Connected::Refused(refusal) => {
                 put_refusal(text, self.name_at(at), refusal)?;
                 self.tell_refused(alloc, at, &refusal, text)?;
                 Ok(Due::Nobody)

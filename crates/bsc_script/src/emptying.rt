@@ -1,79 +1,62 @@
 //! Emptying outboxes.
-ghost use Rattle.std.specs.Prelude.{◌≡◌, ◌≢◌, ◌<◌, ◌++◌, List, ℕ, OnOk, IfOk, false, [], ◌∷◌, length, drop};
+ghost use Rattle.std.specs.Prelude.{◌≡◌, ◌<◌, ◌&&◌, not, List, ℕ, OnOk, IfOk, [], ◌∷◌};
 ghost use Rattle.indexmap.specs.IndexMap.{index_map_len};
 ghost use Rattle.bsc_script.specs.States.{State, Peer as PeerOf};
 ghost use Rattle.bsc_script.specs.Carrying.{ScriptOutcome};
-ghost use Rattle.bsc_history.specs.declared.mark.Stamped.{Stamped};
-ghost use Rattle.bsc_history.specs.Ends.{ended};
-ghost use Rattle.bsc_history.specs.Marks.{entries};
-ghost use Rattle.bsc_history.specs.Outboxes.{sent};
-ghost use Rattle.bsc_ring.specs.Ends.{empties_of, given, outlet_mark};
-ghost use Rattle.bsc_desk.specs.Rows.{HasRow, IsMarkOf, known_of, row_of};
-ghost use Rattle.bsc_desk.specs.Standing.{DeskStands};
-ghost use Rattle.bsc_script.specs.Written.{text_of};
-ghost use Rattle.bsc_script.specs.Emptying.{frame_lines, empties_after, empties, emptied, emptied_on};
+ghost use Rattle.bsc_history.specs.declared.entry.Entry.{Entry};
+ghost use Rattle.bsc_accept.specs.Standing.{phase_of};
+ghost use Rattle.bsc_hub_core.specs.Standing.{CoreStands, HasOutbox};
+ghost use Rattle.bsc_script.specs.Emptying.{empties, emptied, emptied_on, is_connected, is_emptied};
 ghost use Rattle.bsc_script.specs.Settled.{SettledBut};
 ghost use Rattle.bsc_script.specs.Touching.{dues};
-ghost use Rattle.bsc_script.specs.Between.{IsJoinedAt, IsWritten, OwnsOutlet, TakesOne, WritesAll};
-ghost use Rattle.bsc_script.specs.Holding.{ScriptStands, CarriesOut, IsToEmpty, waits_in};
+ghost use Rattle.bsc_script.specs.Between.{IsJoinedAt, IsOpenPeer, IsWritten, TakesOne, WritesAll};
+ghost use Rattle.bsc_script.specs.Holding.{ScriptStands, CarriesOut, IsToEmpty};
 
 use crate::due::Due;
-use crate::noting::meet;
-use crate::peer::{Joined, Peer};
+use crate::peer::Peer;
 use crate::script_hub::ScriptHub;
 use crate::texts::put_out;
 use bsc_checks::Phase;
-use bsc_desk::{Desk, Take};
 use bsc_history::End;
+use bsc_hub_core::{HubCore, Took};
 use bsc_octets::NoMemory;
 use std::alloc::Global;
 
-/// Writes the next frame of the outbox of a peer under its name. Where there is none, it says how its
-/// connection has ended, if it has. The two ends meet before the take, so that all that entered is taken, and
-/// where the outbox is empty again, so that the next look finds just that.
+/// Writes the next frame of the outbox of a connection under a name. Where there is none, it says how the connection has
+/// ended, if it has.
 fn write_next(
-    desk: &mut Desk,
-    joined: &mut Joined,
+    core: &mut HubCore,
+    conn: u64,
     alloc: Global,
     name: &[u8],
     text: &mut Vec<u8>,
 ) -> Result<Option<Option<End>>, NoMemory>
-    requires some { (S : List Stamped) × OwnsOutlet desk.old S joined.old }
-    ensures { (S : List Stamped) → OwnsOutlet desk.old S joined.old → IfOk result (λ took.
-        TakesOne S took desk.old desk.new joined.old joined.new name.now text.old.items text.new.items) }
+    requires some { (H : List Entry) × CoreStands core.old H × HasOutbox core.old conn }
+    ensures { (H : List Entry) → CoreStands core.old H → IfOk result (λ took. TakesOne H conn took core.old core.new name.now text.old.items text.new.items) }
 {
-    meet(desk, joined);
-    match joined.outlet.take() {
-        Take::Frame(frame) => {
+    match core.take(conn) {
+        Took::Frame(frame, _) => {
             put_out(text, alloc, name, frame.as_slice())?;
             Ok(None)
         }
-        Take::Empty => {
-            meet(desk, joined);
-            joined.waits = false;
-            Ok(Some(None))
-        }
-        Take::Closed(ending) => {
-            meet(desk, joined);
-            Ok(Some(Some(ending)))
-        }
+        Took::Empty => Ok(Some(None)),
+        Took::Closed(ending) => Ok(Some(Some(ending))),
     }
 }
 
-/// Writes what waits in the outbox of a peer under its name, and says how its connection has ended, if it has.
+/// Writes what waits in the outbox of a connection under a name, and says how the connection has ended, if it has.
 fn write_frames(
-    desk: &mut Desk,
-    joined: &mut Joined,
+    core: &mut HubCore,
+    conn: u64,
     alloc: Global,
     name: &[u8],
     text: &mut Vec<u8>,
 ) -> Result<Option<End>, NoMemory>
-    requires some { (S : List Stamped) × OwnsOutlet desk.old S joined.old }
-    ensures { (S : List Stamped) → OwnsOutlet desk.old S joined.old → IfOk result (λ ending.
-        WritesAll S ending desk.old desk.new joined.old joined.new name.now text.old.items text.new.items) }
+    requires some { (H : List Entry) × CoreStands core.old H × HasOutbox core.old conn }
+    ensures { (H : List Entry) → CoreStands core.old H → IfOk result (λ ending. WritesAll H conn ending core.old core.new name.now text.old.items text.new.items) }
 {
     for _taken in 0..u64::MAX {
-        if let Some(ending) = write_next(desk, joined, alloc, name, text)? {
+        if let Some(ending) = write_next(core, conn, alloc, name, text)? {
             return Ok(ending);
         }
     }
@@ -81,16 +64,11 @@ fn write_frames(
 }
 
 impl Peer {
-    /// Whether its outbox is to be emptied: its phase is Connected, it isn't held, and something waits there.
-    fn is_to_empty(&self) -> bool
-        ensures { result ≡ waits_in self.now }
+    /// Whether its outbox is to be emptied, where something is due or isn't: its phase is Connected, and it isn't held.
+    fn is_to_empty(&self, due: bool) -> bool
+        ensures { result ≡ (is_connected (phase_of self.now.machine) && not self.now.held && due) }
     {
-        match &self.joined {
-            Some(joined) => joined.waits
-                && !self.held
-                && matches!(self.machine.phase(), Phase::Connected),
-            None => false,
-        }
+        due && !self.held && matches!(self.machine.phase(), Phase::Connected)
     }
 }
 
@@ -107,11 +85,23 @@ impl ScriptHub {
         ensures { (s : State) (k : PeerOf) (c : ℕ) → IsJoinedAt self.old at c s k → IfOk result (λ ending.
             IsWritten self.new at c s k ending text.old.items text.new.items) }
     {
-        let (name, peer) = self.peers.pair_mut(at);
-        match &mut peer.joined {
-            Some(joined) => write_frames(&mut self.desk, joined, alloc, name.as_slice(), text),
-            None => Ok(None),
+        match self.peers.get_index(at) {
+            Some((name, peer)) => match peer.joined {
+                Some(conn) => write_frames(&mut self.core, conn, alloc, name.as_slice(), text),
+                None => Ok(None),
+            },
+            None => unreachable!(),
         }
+    }
+
+    /// Whether the outbox of the peer at a place is to be emptied, which has joined as a connection.
+    fn is_to_empty(&self, at: usize, conn: u64) -> bool
+        requires within { at < index_map_len self.now.peers }
+        requires some { (s : State) × (k : PeerOf) × IsJoinedAt self.now at conn s k × IsOpenPeer s k }
+        ensures { (s : State) (k : PeerOf) → IsJoinedAt self.now at conn s k → IsOpenPeer s k → result ≡ is_emptied s k conn }
+    {
+        let due = self.core.has_due(conn);
+        self.peer_at(at).is_to_empty(due)
     }
 
     /// Empties the outbox of the peer at a place. Where its connection has ended its machine is told.
@@ -134,7 +124,7 @@ impl ScriptHub {
             (CarriesOut self.new text.old.items text.new.items ds (emptied_on s conn)) }
     {
         match self.place_on(conn) {
-            Some(at) => if self.peer_at(at).is_to_empty() {
+            Some(at) => if self.is_to_empty(at, conn) {
                 self.empty_at(alloc, at, text)
             } else {
                 Ok(())

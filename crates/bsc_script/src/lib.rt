@@ -19,7 +19,6 @@ mod hub_line;
 mod laws;
 mod line;
 mod naming;
-mod noting;
 mod peer;
 mod reading;
 mod receiving;

@@ -10,8 +10,8 @@ use crate::bounds::{CONNECT_WAIT_MS, DISCONNECT_WAIT_MS, HEARTBEAT_MS, MOST_NAME
 use crate::peer::Peer;
 use crate::script_hub::ScriptHub;
 use bsc_accept::{Accepting, Times};
-use bsc_desk::Desk;
 use bsc_history::About;
+use bsc_hub_core::HubCore;
 use bsc_octets::{NoMemory, Octets};
 use bsc_player::LineFault;
 use indexmap::IndexMap;
@@ -31,11 +31,17 @@ impl ScriptHub {
         requires { IsHub about }
         ensures { IfOk result (λ t. ScriptHolds t (new_hub about)) }
     {
-        let desk = Desk::make(alloc, about.hub, about.limits)?;
+        let core = HubCore::make(
+            alloc,
+            About {
+                hub: about.hub,
+                limits: about.limits,
+            },
+        )?;
         Ok(ScriptHub {
             about,
             clock: 0,
-            desk,
+            core,
             peers: IndexMap::new(alloc),
             names: BTreeMap::new(alloc),
         })
@@ -102,9 +108,9 @@ impl ScriptHub {
             held: false,
             joined: None,
         };
-        match self.peers.insert(name.into_vec(), peer) {
-            Ok(_) => Ok(()),
-            Err(_) => Err(LineFault::NoMemory),
-        }
+        let Ok(_) = self.peers.insert(name.into_vec(), peer) else {
+            return Err(LineFault::NoMemory);
+        };
+        Ok(())
     }
 }

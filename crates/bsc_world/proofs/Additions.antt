@@ -77,7 +77,7 @@ nobody_joined l c p = cc
 
 pub added_hub : (t u : KeptWorld) (added : List Added) (who : Identity) (limits : Limits) (kept : KeptHub) → WorldStands t added []
     → u.made ≡ t.made → u.clock ≡ t.clock → u.hubs.items ≡ t.hubs.items ++ kept ∷ [] → u.nodes.items ≡ t.nodes.items → u.links.items ≡ t.links.items
-    → length t.hubs.items < 2 → IsNode who → IsHub (record { hub = who; limits = limits }) → IsHubKept (length t.hubs.items) (new_hub (record { hub = who; limits = limits })) [] kept
+    → length t.hubs.items < 2 → IsNode who → IsHub (record { hub = who; limits = limits }) → IsHubKept (length t.hubs.items) (new_hub (record { hub = who; limits = limits })) kept
     → WorldStands u (and_hub added who limits) []
 added_hub t u added who limits kept f made clock hubs_so nodes_so links_so few node_who fit is =
     let a : About = record { hub = who; limits = limits } in
@@ -113,7 +113,6 @@ added_hub t u added who limits kept f made clock hubs_so nodes_so links_so few n
         (let b = f.kept.hubs j h old in
         record {
           kept = b.kept;
-          marks = b.marks;
           there = ap (λ xs. slice_get xs j) hubs_so ∙ got-left t.hubs.items (kept ∷ []) j b.kept b.there;
           hub = b.hub;
           sides = λ l link k at to got. absurd (nothing_there l link at);
@@ -123,9 +122,8 @@ added_hub t u added who limits kept f made clock hubs_so nodes_so links_so few n
         let number : length t.hubs.items ≡ j = f.kept.hub_count ∙ sym new.0 in
         record {
           kept = kept;
-          marks = [];
           there = ap (λ xs. slice_get xs j) hubs_so ∙ ap (slice_get (t.hubs.items ++ kept ∷ [])) (sym number) ∙ got-last t.hubs.items kept;
-          hub = subst (λ x. IsHubKept j x [] kept) (sym new.1) (subst (λ n. IsHubKept n (new_hub (record { hub = who; limits = limits })) [] kept) number is);
+          hub = subst (λ x. IsHubKept j x kept) (sym new.1) (subst (λ n. IsHubKept n (new_hub (record { hub = who; limits = limits })) kept) number is);
           sides = λ l link k at to got. absurd (nothing_there l link at);
           joined = λ l c own. absurd (nobody_joined l c (ap (λ (x : Hub). is_of (history x) l c) (sym new.1) ∙ own));
         }
@@ -159,7 +157,6 @@ added_node t u added own direct kept f made clock hubs_so nodes_so links_so some
         leads = λ l j link at to. absurd (nothing_there l link at);
         hubs = λ j h at. (let b = s.hubs j h (ap (λ xs. slice_get xs j) (sym hubs_are) ∙ at) in record {
           kept = b.kept;
-          marks = b.marks;
           there = ap (λ xs. slice_get xs j) hubs_so ∙ b.there;
           hub = b.hub;
           sides = λ l link k is to got. absurd (nothing_there l link is);

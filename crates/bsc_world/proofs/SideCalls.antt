@@ -2,8 +2,7 @@
 use Rattle.std.proofs.Common.{◌≡◌, ◌≤◌, ◌⊎◌, inl, inr, ℕ, zero, suc, Bool, true, false, cond, List, [], ◌∷◌, ◌++◌, length, set, slice_get, Option, Some, None, true≢false, refl, ap, sym, ◌∙◌, subst}
 use Rattle.std.specs.Option.{option_map}
 use Rattle.bsc_history.specs.declared.ending.End.{End}
-use Rattle.bsc_history.specs.declared.mark.Stamped.{Stamped}
-use Rattle.bsc_desk.specs.declared.desk.Desk.{Desk}
+use Rattle.bsc_hub_core.specs.declared.hub_core.HubCore.{HubCore}
 use Rattle.bsc_accept.specs.declared.accepting.Accepting.{Accepting}
 use Rattle.bsc_accept.specs.declared.start.Start.{Start}
 use Rattle.bsc_accept.specs.declared.event.Event.{Event}
@@ -20,7 +19,6 @@ use Rattle.bsc_network.specs.declared.target.Target.TheVariants.{Hub as ToHub, N
 use Rattle.bsc_network.specs.declared.way.Way.TheVariants.{Down}
 use Rattle.bsc_network.specs.declared.parcel.Content.{Content}
 use Rattle.bsc_network.specs.declared.parcel.Content.TheVariants.{Message, Closed}
-use Rattle.bsc_world.specs.declared.kept_link.KeptConn.{KeptConn}
 use Rattle.bsc_world.specs.declared.kept_link.KeptLink.{KeptLink}
 use Rattle.bsc_world.specs.KeptSides.{KeptSide}
 use Rattle.bsc_world.specs.declared.world.World.{World as KeptWorld}
@@ -118,13 +116,13 @@ alone_session t l kept was none F b w s j h x p =
     let same : y.0 ≡ x = some_same y.0 x (sym y.1 ∙ p.there) in
     let to : kept.to ≡ ToHub j = y.2.to ∙ ap (λ (z : Link). z.to) same ∙ p.to in
     let a = s.hubs j h p.hub in
-    let over : x.side.is_over ≡ true = subst (IsSideKeptIf l h a.marks a.kept.desk x) (none j to) (a.sides l x kept p.there p.to was) in
+    let over : x.side.is_over ≡ true = subst (IsSideKeptIf l h a.kept.core x) (none j to) (a.sides l x kept p.there p.to was) in
     true≢false (sym over ∙ p.lasts)
 
 pub kept_session : (t : KeptWorld) (l j : ℕ) (kept : KeptLink) (side : KeptSide) → slice_get t.links.items l ≡ Some kept → kept.to ≡ ToHub j → kept.side ≡ Some side → (F : List LinkName) (b : Option ℕ) (w : World) → WorldKeptAs t F b w → HasSession w l
 kept_session t l j kept side was to is F b w s =
     let x = side_at t F b w l j kept s was to in
-    let k : IsSideKept l x.hub x.at.marks x.at.kept.desk x.link side = subst (IsSideKeptIf l x.hub x.at.marks x.at.kept.desk x.link) is x.side in
+    let k : IsSideKept l x.hub x.at.kept.core x.link side = subst (IsSideKeptIf l x.hub x.at.kept.core x.link) is x.side in
     (j, x.hub, x.link, record { there = x.there; to = x.to; hub = x.hub_there; lasts = k.lasts })
 
 -- ---- what is put
@@ -170,32 +168,30 @@ idle_goes t l ready F w at s =
 abbrev hears : Event → Link → Link
 hears e link = record link { side = record link.side { events = link.side.events ++ e ∷ [] } }
 
-conn_told : (l : ℕ) (h : Hub) (S : List Stamped) (d : Desk) (s : HubSide) (events : List Event) (o : Option KeptConn) → IsConnKeptIf l h S d s o → IsConnKeptIf l h S d (record s { events = events }) o
-conn_told l h S d s events None k = k
-conn_told l h S d s events (Some c) k = record {
+conn_told : (l : ℕ) (h : Hub) (core : HubCore) (s : HubSide) (events : List Event) (o : Option ℕ) → IsConnKeptIf l h core s o → IsConnKeptIf l h core (record s { events = events }) o
+conn_told l h core s events None k = k
+conn_told l h core s events (Some c) k = record {
   conn = k.conn;
   joiner = k.joiner;
-  address = k.address;
-  marked = k.marked;
-  outlet = k.outlet;
+  outbox = k.outbox;
+  there = k.there;
   taken = k.taken;
   empties = k.empties;
-  known = k.known;
   places = k.places;
 }
 
-side_told : (l : ℕ) (h : Hub) (S : List Stamped) (d : Desk) (link : Link) (e : Event) (old new : KeptLink) (p : PortGoes old new) (i : Start) → AcceptingStands p.was.machine i link.side.events → AcceptingStands p.machine i (link.side.events ++ e ∷ [])
-    → IsSideKeptIf l h S d link old.side → IsSideKeptIf l h S d (hears e link) new.side
-side_told l h S d link e old new p i before after k =
-    let was : IsSideKept l h S d link p.was = subst (IsSideKeptIf l h S d link) p.there k in
+side_told : (l : ℕ) (h : Hub) (core : HubCore) (link : Link) (e : Event) (old new : KeptLink) (p : PortGoes old new) (i : Start) → AcceptingStands p.was.machine i link.side.events → AcceptingStands p.machine i (link.side.events ++ e ∷ [])
+    → IsSideKeptIf l h core link old.side → IsSideKeptIf l h core (hears e link) new.side
+side_told l h core link e old new p i before after k =
+    let was : IsSideKept l h core link p.was = subst (IsSideKeptIf l h core link) p.there k in
     let same : i ≡ start h link = sym before.start ∙ was.machine.start in
-    let made : IsSideKept l h S d (hears e link) (port_then p) = record {
+    let made : IsSideKept l h core (hears e link) (port_then p) = record {
       lasts = was.lasts;
       machine = subst (λ z. AcceptingStands p.machine z (link.side.events ++ e ∷ [])) same after;
-      joined = conn_told l h S d link.side (link.side.events ++ e ∷ []) p.was.joined was.joined;
+      joined = conn_told l h core link.side (link.side.events ++ e ∷ []) p.was.joined was.joined;
     } in
-    let held : IsSideKeptIf l h S d (hears e link) (Some (port_then p)) = made in
-    subst (λ (y : KeptLink). IsSideKeptIf l h S d (hears e link) y.side) (sym p.becomes) held
+    let held : IsSideKeptIf l h core (hears e link) (Some (port_then p)) = made in
+    subst (λ (y : KeptLink). IsSideKeptIf l h core (hears e link) y.side) (sym p.becomes) held
 
 told_kept : (link : Link) (e : Event) (old new : KeptLink) → PortGoes old new → IsLinkKept link old → IsLinkKept (hears e link) new
 told_kept link e old new p k =
@@ -224,7 +220,7 @@ pub is_told : (t u : KeptWorld) (F : List LinkName) (w : World) (l : ℕ) (kept 
     → WorldKeptAs t F (Some l) w → IsTold t u F w l p.hub e p.was.machine
 is_told t u F w l kept after p e was o hubs goes st =
     let x = side_at t F (Some l) w l p.hub kept st was p.to in
-    let k : IsSideKept l x.hub x.at.marks x.at.kept.desk x.link p.was = subst (IsSideKeptIf l x.hub x.at.marks x.at.kept.desk x.link) p.there x.side in
+    let k : IsSideKept l x.hub x.at.kept.core x.link p.was = subst (IsSideKeptIf l x.hub x.at.kept.core x.link) p.there x.side in
     let i = start x.hub x.link in
     let it = e i x.link.side.events in
     let stands = goes x.hub x.link x.hub_there k.machine in
@@ -238,7 +234,7 @@ is_told t u F w l kept after p e was o hubs goes st =
       links = o.links;
       to = refl;
       link_kept = told_kept x.link it kept after p x.link_kept;
-      side = λ j h S d to q. side_told l h S d x.link it kept after p i k.machine stands q;
+      side = λ j h core to q. side_told l h core x.link it kept after p i k.machine stands q;
       owner = λ c q r. (q, r);
     } in
     record {
@@ -269,7 +265,7 @@ told_side P t l kept after p was holds k side got is =
 pub port_some : (t : KeptWorld) (l : ℕ) (kept : KeptLink) → slice_get t.links.items l ≡ Some kept → Stands (Some l) t → HasPort (λ p. HasPast p) kept
 port_some t l kept was (F, w, at, st) j side to is =
     let x = side_at t F (Some l) w l j kept st was to in
-    let k : IsSideKept l x.hub x.at.marks x.at.kept.desk x.link side = subst (IsSideKeptIf l x.hub x.at.marks x.at.kept.desk x.link) is x.side in
+    let k : IsSideKept l x.hub x.at.kept.core x.link side = subst (IsSideKeptIf l x.hub x.at.kept.core x.link) is x.side in
     (start x.hub x.link, x.link.side.events, k.machine)
 
 -- what is known of a port at an event

@@ -1,6 +1,5 @@
 pub mod KeptSides
 pub mod HubEntries
-pub mod Passing
 pub mod Kept
 pub mod Standing
 pub mod Becoming

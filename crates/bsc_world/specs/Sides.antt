@@ -3,6 +3,8 @@ use Rattle.std.specs.Prelude.{◌≡◌, ℕ, true, false, List, slice_get, Opti
 use Rattle.bsc_octets.specs.declared.identity.Identity.{Identity}
 use Rattle.bsc_history.specs.declared.call.Call.TheVariants.{Connect, Forward}
 use Rattle.bsc_history.specs.declared.reply.Reply.TheVariants.{Joined as JoinedReply, Refused as RefusedReply}
+use Rattle.bsc_hub_core.specs.declared.forwarded.Forwarded.{Forwarded}
+use Rattle.bsc_hub_core.specs.declared.forwarded.Forwarded.TheVariants.{Worn as ForwardWorn, One, All}
 use Rattle.bsc_port.specs.declared.action.PortAction.{PortAction}
 use Rattle.bsc_port.specs.Actions.{action, heard}
 use Rattle.bsc_node.specs.declared.link_name.LinkName.{LinkName}
@@ -66,6 +68,12 @@ WasPassed PassedWorn old new x link m = ((c : ℕ) × (link.side.conn ≡ Some c
 WasPassed Made old new x link m =
     (c : ℕ) × (link.side.conn ≡ Some c) × (is_worn x.hub ≡ false)
     × Became old new x.failed None x.world (called x.number x.link x.place (Forward c m) x.world)
+
+-- what a forward comes to, by what the hub answers
+abbrev pub passed_by : Forwarded → Passed
+passed_by ForwardWorn = PassedWorn
+passed_by (One reply) = Made
+passed_by (All reply) = Made
 
 -- ---- messages
 

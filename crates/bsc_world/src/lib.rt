@@ -21,7 +21,6 @@ mod making;
 mod node_events;
 mod node_sides;
 mod passed;
-mod passing;
 mod refusals;
 mod settings;
 mod step_done;

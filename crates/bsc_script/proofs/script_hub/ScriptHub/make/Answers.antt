@@ -12,13 +12,11 @@ pub returns : goal.returns
 unfolding joined_where
 returns c = (
   record {
-    marked = [];
-    history = refl;
-    stands = c.in_ok-desk.ensures.stands;
-    about = c.in_ok-desk.ensures.about;
+    core = c.in_ok-core.ensures.stands;
+    about = c.in_ok-core.ensures.about;
     same_hub = refl;
     clock = refl;
-    peers = subst (λ es. ArePeers c.in_ok-desk.desk [] [] (map kept es)) (sym c.new.ensures.empty) tt;
+    peers = subst (λ es. ArePeers c.in_ok-core.core [] [] (map kept es)) (sym c.new.ensures.empty) tt;
     apart = tt;
     conns = tt;
     names = λ q. ap (λ (es : List (ℕ × List ℕ)). lookup (is_at (nat_cmp q)) es) c.new-2.ensures.empty;

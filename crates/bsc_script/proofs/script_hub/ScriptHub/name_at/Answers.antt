@@ -1,10 +1,6 @@
 -- The name that is kept at a place is that of the peer there.
 use Rattle.std.proofs.Common.{sym, ◌∙◌}
 use Rattle.bsc_script.proofs.Names.{name_kept}
-use Rattle.bsc_script.proofs.Leaving.{left_stands}
-use Rattle.bsc_script.proofs.Settling.{settled_told}
-use Rattle.bsc_script.proofs.Judging.{routed}
-use Rattle.bsc_script.proofs.Carried.{both_carried}
 use Rattle.bsc_script.proofs.script_hub.ScriptHub.name_at.Goals as goal
 
 pub returns : goal.returns

@@ -6,8 +6,8 @@ use Rattle.bsc_script.specs.Running.{opens}
 use Rattle.bsc_script.proofs.Opened.{opened, opens_to, may_open_so}
 use Rattle.bsc_script.proofs.script_hub.ScriptHub.open.Goals as goal
 
-pub returns-in-Ok : goal.returns-in-Ok
-returns-in-Ok c = λ s h. (
+pub returns : goal.returns
+returns c = λ s h. (
     let may = may_open_so s c.as_slice.result.now (sym (c.if-not-may_open.ensures s h.0)) in
     let closed : is_open s c.into_vec.result.items ≡ false = subst (λ n. is_open s n ≡ false) (c.as_slice.ensures ∙ sym c.into_vec.ensures) may.0 in
     let some : opens s c.args.name ≡ Some (quietly (with_opened (new_peer c.args.name s.clock) s)) = subst (λ n. opens s n ≡ Some (quietly (with_opened (new_peer n s.clock) s))) c.as_slice.ensures may.1 in
