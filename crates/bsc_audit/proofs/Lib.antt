@@ -6,11 +6,12 @@ pub mod SortedOut
 pub mod InOrder
 pub mod Within
 pub mod InTurn
-pub mod Verdict
+pub mod ComesTo
 pub mod Stopping
 pub mod Told
 pub mod SayAgain
 pub mod Counts
 pub mod OneHistory
 pub mod Believed
+pub mod Explained
 mod WorkedJournals

@@ -1,5 +1,5 @@
 -- Small journals, and what an audit of each comes to, worked by hand: A and B join a hub, and A sends to B.
-use Rattle.std.proofs.Common.{◌≡◌, ℕ, ◌<◌, List, [], ◌∷◌, ◌++◌, length, codes, decimal, refl, arith}
+use Rattle.std.proofs.Common.{◌≡◌, inl, inr, ℕ, ◌<◌, List, [], ◌∷◌, ◌++◌, length, codes, decimal, refl, arith}
 use Rattle.std.specs.Prelude.{⊤}
 use Rattle.uuid.proofs.OnLiterals.{uuid_on_literals}
 use Rattle.bsc_history.proofs.OnLiterals.{history_on_literals}
@@ -13,6 +13,9 @@ use Rattle.bsc_lines.specs.Lines.{entry_line}
 use Rattle.bsc_journal.specs.Saying.{HasLine, IsHubLine, IsLineOf}
 use Rattle.bsc_journal.specs.Journals.{Tells}
 use Rattle.bsc_journal.specs.Good.{IsGood}
+use Rattle.bsc_legality.specs.declared.breach.Breach.TheVariants.{Taken}
+use Rattle.bsc_audit_diagnostics.specs.Texts.{breach_text}
+use Rattle.bsc_audit.specs.Explaining.{Explains}
 use Rattle.bsc_audit.specs.Verdicts.{AuditsTo}
 use Rattle.bsc_journal.proofs.Numbers.{some_digits}
 use Rattle.bsc_journal.proofs.OnLiterals.{journals_on_literals}
@@ -206,6 +209,39 @@ two_hubs = record {
 
 nothing : AuditsTo [] (Hubs 0)
 nothing = record { said = []; all = tt; count = refl; other = λ e. (let no : ⊥ = omega (arith, e) in no) }
+
+-- ---- what is told beside these
+
+none_told : Explains a_line (Hubs 0) (codes "no line is a hub line: the journal of the hub's own caller has it")
+none_told = inl (refl, refl)
+
+two_told : Explains (lines (hub_line ∷ a_line ∷ hub_line ∷ [])) (Hubs 2) (codes "lines 1 and 3 are hub lines, and there should be one")
+unfolding script_on_literals
+two_told = inr (1, 3, ([], refl), refl)
+
+twice_told : Explains (lines (hub_line ∷ a_line ∷ b_line ∷ a_line ∷ [])) (Twice 0) (codes "lines 2 and 4 both have place 0")
+unfolding script_on_literals
+twice_told = (2, 4, ([], refl), refl)
+
+missing_told : Explains (lines (hub_line ∷ a_line ∷ sent_line ∷ [])) (Missing 1) (codes "line 2 has place 0, and the next is 2, in line 3")
+unfolding script_on_literals
+missing_told = (2, (let above : 1 < 2 = omega arith in above), inr (2, 3, ([], refl), ([], refl), refl))
+
+early_told : Explains (lines (hub_line ∷ a_line ∷ early_line ∷ b_line ∷ [])) (Illegal 2) (codes "line 3: frames taken from connection 2 were 1, and should be from 0 to 0")
+unfolding history_on_literals script_on_literals breach_text
+early_told = (
+  the_hub,
+  a_joins ∷ b_joins ∷ a_sends 1 ∷ [],
+  early_tells,
+  record {
+    before = a_joins ∷ b_joins ∷ [];
+    entry = a_sends 1;
+    behind = [];
+    parts = refl;
+    place = refl;
+    tells = record { broken = Taken 2 1 0 0; breaks = refl; tells = (3, ([], refl), refl) };
+  },
+)
 
 -- ---- bad lines
 

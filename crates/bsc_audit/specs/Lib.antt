@@ -2,3 +2,4 @@ pub mod Verdicts
 pub mod Hearing
 pub mod Taking
 pub mod Judging
+pub mod Explaining

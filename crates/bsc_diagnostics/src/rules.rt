@@ -1,7 +1,9 @@
 //! Rules of words, which several languages share. Each is kept by exactly the words that the reader of such a word takes.
-ghost use Rattle.std.specs.Prelude.{◌≡◌, ◌<◌, ◌↔◌, true, [], ◌∷◌, length, is_some, IsOk, IsErr, IfOk};
+ghost use Rattle.std.specs.Prelude.{◌≡◌, ◌<◌, ◌↔◌, true, [], ◌∷◌, length, is_some, IsOk, IsErr, IfOk, IfErr};
 ghost use Rattle.bsc_text.specs.Words.{words_of};
 ghost use Rattle.bsc_text.specs.Grammar.{device_of_word, is_name, maximum_of_word, number_of, vmac_of_word};
+ghost use Rattle.bsc_diagnostics.specs.Broken.{IsMissing, IsMore, Tells, destination_rule, device_rule, maximum_rule, name_rule, number_rule};
+ghost use Rattle.bsc_diagnostics.specs.Broken.{one_node_rule, unless, vmac_rule, within_rule};
 
 use crate::diagnostic::Diagnostic;
 use bsc_octets::{LEAST_BVLC, Vmac};
@@ -15,7 +17,8 @@ const NUMBER: &str = "is no number of 1 to 19 digits without a sign or a leading
 
 /// Whether something is so of a word, by the rule that it breaks otherwise.
 pub fn hold<'a>(is_so: bool, word: &'a [u8], rule: &'static str) -> Result<(), Diagnostic<'a>>
-    ensures { IsOk result ↔ (is_so ≡ true) }
+    ensures kept { IsOk result ↔ (is_so ≡ true) }
+    ensures broken { Tells result word.now (unless is_so rule.now) }
 {
     if is_so {
         Ok(())
@@ -31,6 +34,7 @@ pub fn word_of<'a>(
 ) -> Result<(&'a [u8], &'a [u8]), Diagnostic<'a>>
     ensures word { IfOk result (λ (word, rest). words_of words.now ≡ word.now ∷ words_of rest.now) }
     ensures missing { IsErr result → words_of words.now ≡ [] }
+    ensures told { IfErr result (λ told. IsMissing told form.now) }
     ensures shorter { IfOk result (λ (_, rest). length rest.now < length words.now) }
 {
     match next_word(words) {
@@ -41,7 +45,8 @@ pub fn word_of<'a>(
 
 /// No words, behind those of a line of this form.
 pub fn no_more<'a>(words: &'a [u8], form: &'static str) -> Result<(), Diagnostic<'a>>
-    ensures { IsOk result ↔ (words_of words.now ≡ []) }
+    ensures kept { IsOk result ↔ (words_of words.now ≡ []) }
+    ensures told { IfErr result (λ told. IsMore told (words_of words.now) form.now) }
 {
     match next_word(words) {
         Some((word, _)) => Err(Diagnostic::More { word, form }),
@@ -60,7 +65,8 @@ pub fn only_word<'a>(words: &'a [u8], form: &'static str) -> Result<&'a [u8], Di
 
 /// A name.
 pub fn hold_name<'a>(word: &'a [u8]) -> Result<(), Diagnostic<'a>>
-    ensures { IsOk result ↔ (is_name word.now ≡ true) }
+    ensures kept { IsOk result ↔ (is_name word.now ≡ true) }
+    ensures broken { Tells result word.now (name_rule word.now) }
 {
     hold(
         is_name(word),
@@ -71,14 +77,16 @@ pub fn hold_name<'a>(word: &'a [u8]) -> Result<(), Diagnostic<'a>>
 
 /// A VMAC.
 pub fn hold_vmac<'a>(word: &'a [u8]) -> Result<(), Diagnostic<'a>>
-    ensures { IsOk result ↔ (is_some (vmac_of_word word.now) ≡ true) }
+    ensures kept { IsOk result ↔ (is_some (vmac_of_word word.now) ≡ true) }
+    ensures broken { Tells result word.now (vmac_rule word.now) }
 {
     hold(read_vmac(word).is_some(), word, VMAC)
 }
 
 /// A VMAC that isn't zero.
 pub fn hold_destination<'a>(word: &'a [u8]) -> Result<(), Diagnostic<'a>>
-    ensures { IsOk result → is_some (vmac_of_word word.now) ≡ true }
+    ensures kept { IsOk result → is_some (vmac_of_word word.now) ≡ true }
+    ensures broken { Tells result word.now (destination_rule (vmac_of_word word.now)) }
 {
     match read_vmac(word) {
         Some(vmac) => hold(vmac != Vmac::ZERO, word, "is the VMAC zero"),
@@ -88,7 +96,8 @@ pub fn hold_destination<'a>(word: &'a [u8]) -> Result<(), Diagnostic<'a>>
 
 /// A VMAC of one node.
 pub fn hold_one_node<'a>(word: &'a [u8]) -> Result<(), Diagnostic<'a>>
-    ensures { IsOk result → is_some (vmac_of_word word.now) ≡ true }
+    ensures kept { IsOk result → is_some (vmac_of_word word.now) ≡ true }
+    ensures broken { Tells result word.now (one_node_rule (vmac_of_word word.now)) }
 {
     match read_vmac(word) {
         Some(vmac) => hold(
@@ -102,14 +111,16 @@ pub fn hold_one_node<'a>(word: &'a [u8]) -> Result<(), Diagnostic<'a>>
 
 /// A device.
 pub fn hold_device<'a>(word: &'a [u8]) -> Result<(), Diagnostic<'a>>
-    ensures { IsOk result ↔ (is_some (device_of_word word.now) ≡ true) }
+    ensures kept { IsOk result ↔ (is_some (device_of_word word.now) ≡ true) }
+    ensures broken { Tells result word.now (device_rule word.now) }
 {
     hold(read_device(word).is_some(), word, "is no UUID")
 }
 
 /// A maximum length, whichever it is.
 pub fn hold_any_maximum<'a>(word: &'a [u8]) -> Result<(), Diagnostic<'a>>
-    ensures { IsOk result ↔ (is_some (maximum_of_word word.now) ≡ true) }
+    ensures kept { IsOk result ↔ (is_some (maximum_of_word word.now) ≡ true) }
+    ensures broken { Tells result word.now (maximum_rule word.now) }
 {
     hold(
         read_maximum(word).is_some(),
@@ -152,7 +163,8 @@ pub fn hold_hub_identity<'a>(
 
 /// A number.
 pub fn hold_number<'a>(word: &'a [u8]) -> Result<(), Diagnostic<'a>>
-    ensures { IsOk result ↔ (is_some (number_of word.now) ≡ true) }
+    ensures kept { IsOk result ↔ (is_some (number_of word.now) ≡ true) }
+    ensures broken { Tells result word.now (number_rule word.now) }
 {
     hold(read_number(word).is_some(), word, NUMBER)
 }
@@ -168,7 +180,9 @@ pub fn hold_within<'a>(
     least: u64,
     greatest: u64,
     rule: &'static str,
-) -> Result<(), Diagnostic<'a>> {
+) -> Result<(), Diagnostic<'a>>
+    ensures { Tells result word.now (within_rule least greatest rule.now (number_of word.now)) }
+{
     match read_number(word) {
         Some(n) => hold(least <= n && n <= greatest, word, rule),
         None => Err(Diagnostic::Word { word, rule }),

@@ -46,7 +46,7 @@ stands_own l a H s = subst (λ (b : About). LegalityStands l b H) (sym s.about_s
 
 -- ---- rows
 
-of_same : (l : Legality) (H : List Entry) (caller c : ℕ) → Stands l H → is_of_in l.rows.items caller c ≡ is_of H caller c
+pub of_same : (l : Legality) (H : List Entry) (caller c : ℕ) → Stands l H → is_of_in l.rows.items caller c ≡ is_of H caller c
 of_same l H caller c s =
     let p = λ (x : Connection). (x.number == c) && (x.caller == caller) in
     any_row p l.rows.items ∙ ap (list_any p) s.unleft_rows
@@ -59,7 +59,7 @@ pub record Has (l : Legality) (H : List Entry) (c : ℕ) : Type 0 where
   pub number_so : row.connection.number ≡ c
   pub is : IsRowOf l.about H row
 
-has : (l : Legality) (H : List Entry) (c : ℕ) → Stands l H → list_any (has_number c) l.rows.items ≡ true → Has l H c
+pub has : (l : Legality) (H : List Entry) (c : ℕ) → Stands l H → list_any (has_number c) l.rows.items ≡ true → Has l H c
 has l H c s any =
     let rows = l.rows.items in
     let on : (o : Option Row) → row_of rows c ≡ o → MatchOption o ((x : Row) → In x rows → has_number c x ≡ false) (λ x. In x rows × (has_number c x ≡ true)) → Has l H c = λ o. elim o as (λ o. row_of rows c ≡ o → MatchOption o ((x : Row) → In x rows → has_number c x ≡ false) (λ x. In x rows × (has_number c x ≡ true)) → Has l H c) [
@@ -77,7 +77,7 @@ weaker t u (r ∷ rows) f h =
     ] in
     by (t r) refl h
 
-has_of : (l : Legality) (H : List Entry) (caller c : ℕ) → Stands l H → is_of_in l.rows.items caller c ≡ true → Has l H c
+pub has_of : (l : Legality) (H : List Entry) (caller c : ℕ) → Stands l H → is_of_in l.rows.items caller c ≡ true → Has l H c
 has_of l H caller c s is = has l H c s (weaker (λ r. (r.connection.number == c) && (r.connection.caller == caller)) (has_number c) l.rows.items (λ r h. (and_parts (r.connection.number == c) (r.connection.caller == caller) h).0) is)
 
 can_same : (l : Legality) (H : List Entry) (c taken : ℕ) → Has l H c → can_find_at (row_of l.rows.items c) taken ≡ can_find l.about H c taken
@@ -273,7 +273,7 @@ Seated l H (Forward sender m) = Has l H sender
 Seated l H (Leave conn taken empties) = Has l H conn
 Seated l H call = Unit {0}
 
-seated : (l : Legality) (H : List Entry) (caller : ℕ) (call : Call) → Stands l H → may_call_in l caller call ≡ true → Seated l H call
+pub seated : (l : Legality) (H : List Entry) (caller : ℕ) (call : Call) → Stands l H → may_call_in l caller call ≡ true → Seated l H call
 seated l H caller (Connect who) s h = tt
 seated l H caller (Forward sender m) s h =
     let one = and_parts (is_of_in l.rows.items caller sender && has_route m) (nat_lt l.entries l.about.limits.calls) h in
@@ -282,7 +282,7 @@ seated l H caller (Leave conn taken empties) s h = has_of l H caller conn s (and
 seated l H caller Stop s h = tt
 seated l H caller Count s h = tt
 
-due_same : (l : Legality) (H : List Entry) (call : Call) (looks : List Look) → Stands l H → Seated l H call → conns looks ≡ looks_due l call → due l call looks ≡ reply l.about H call looks
+pub due_same : (l : Legality) (H : List Entry) (call : Call) (looks : List Look) → Stands l H → Seated l H call → conns looks ≡ looks_due l call → due l call looks ≡ reply l.about H call looks
 due_same l H (Connect who) looks s h named = connect_same l H who s
 due_same l H (Forward sender m) looks s h named = forward_same l H sender m looks s h named
 due_same l H (Leave conn taken empties) looks s h named = ap (λ (w : Option End). Gone (unwrap_or w Left) taken) (ends_same l H conn h)
@@ -296,7 +296,7 @@ sent_looks l H sender m o s =
     let by : (b : Bool) → is_broadcast m ≡ b → G b = λ b. elim b as (λ b. is_broadcast m ≡ b → G b) [ true ↦ λ e. all_looks l H sender m o s e | false ↦ λ e. one_looks l H sender m o s e ] in
     by (is_broadcast m) refl
 
-looks_same : (l : Legality) (H : List Entry) (call : Call) → Stands l H → Seated l H call → looks_due l call ≡ looks_at H call
+pub looks_same : (l : Legality) (H : List Entry) (call : Call) → Stands l H → Seated l H call → looks_due l call ≡ looks_at H call
 looks_same l H (Connect who) s h = refl
 looks_same l H (Forward sender m) s h =
     let rows = l.rows.items in
@@ -324,7 +324,7 @@ one_number p size c rows m =
     ] in
     on (find p rows) (find_says p rows) m
 
-due_rows : (l : Legality) (call : Call) (c : ℕ) → In c (looks_due l call) → list_any (has_number c) l.rows.items ≡ true
+pub due_rows : (l : Legality) (call : Call) (c : ℕ) → In c (looks_due l call) → list_any (has_number c) l.rows.items ≡ true
 due_rows l (Connect who) c m = absurd m
 due_rows l (Forward sender w) c m =
     let rows = l.rows.items in

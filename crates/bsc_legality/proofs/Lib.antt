@@ -12,3 +12,5 @@ pub mod Decides
 pub mod Matches
 pub mod Changes
 pub mod Bounded
+pub mod Breaches
+mod WorkedBreaches

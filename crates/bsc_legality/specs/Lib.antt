@@ -4,3 +4,5 @@ pub mod Sameness
 pub mod Deciding
 pub mod Following
 pub mod Bounds
+pub mod Breaches
+pub mod BreachesIn

@@ -153,7 +153,7 @@ fn looked_at_one(looks: &[Look], size: usize, found: &Option<Row>) -> bool
 }
 
 /// The reply that a unicast is due.
-fn one_due(outbox: u32, size: usize, looks: &[Look], found: &Option<Row>) -> Reply
+pub(crate) fn one_due(outbox: u32, size: usize, looks: &[Look], found: &Option<Row>) -> Reply
     ensures { result ≡ one_due outbox size looks.now found.now }
 {
     match found {
@@ -254,7 +254,7 @@ fn serves(
 
 impl Legality {
     /// The reply that a connect is due.
-    fn connect_due(&self, who: &Identity) -> Reply
+    pub(crate) fn connect_due(&self, who: &Identity) -> Reply
         ensures { result ≡ connect_due self.now who.now }
     {
         let rows = self.rows.as_slice();
@@ -304,7 +304,7 @@ impl Legality {
     }
 
     /// The reply that a leave is due.
-    fn leave_due(&self, conn: u64, taken: u64, empties: u64) -> Reply
+    pub(crate) fn leave_due(&self, conn: u64, taken: u64, empties: u64) -> Reply
         requires { IsTrue (rising self.now.rows.items) }
         ensures { result ≡ due self.now (Leave conn taken empties) [] }
     {

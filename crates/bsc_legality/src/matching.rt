@@ -18,14 +18,14 @@ pub(crate) fn is_long(row: &Row, size: usize) -> bool
 }
 
 /// Whether a row is that of a live connection other than the sender, which takes so many octets.
-fn is_looked_at(row: &Row, sender: u64, size: usize) -> bool
+pub(crate) fn is_looked_at(row: &Row, sender: u64, size: usize) -> bool
     ensures { result ≡ is_meant_with sender (λ r. not (is_long_at size r)) row.now }
 {
     is_open(row) && (row.connection.number != sender && !is_long(row, size))
 }
 
 /// Whether a row is that of a live connection other than the sender, for which so many octets are too long.
-fn is_skipped(row: &Row, sender: u64, size: usize) -> bool
+pub(crate) fn is_skipped(row: &Row, sender: u64, size: usize) -> bool
     ensures { result ≡ is_meant_with sender (is_long_at size) row.now }
 {
     is_open(row) && (row.connection.number != sender && is_long(row, size))
@@ -78,7 +78,7 @@ pub(crate) fn are_skipped(numbers: &[u64], sender: u64, size: usize, rows: &[Row
 }
 
 /// Whether a look finds its outbox full, or doesn't, as is asked.
-fn fares_so(full: bool, look: &Look, outbox: u32, rows: &[Row]) -> bool
+pub(crate) fn fares_so(full: bool, look: &Look, outbox: u32, rows: &[Row]) -> bool
     requires { IsTrue (rising rows.now) }
     ensures { result ≡ fares_so full outbox rows.now look.now }
 {

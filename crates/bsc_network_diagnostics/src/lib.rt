@@ -6,7 +6,9 @@
 #![tactic(auto)]
 
 mod form;
+mod misplaced;
 mod place;
 
 pub use form::why_network_line;
-pub use place::{Misplaced, why_network_place};
+pub use misplaced::Misplaced;
+pub use place::why_network_place;

@@ -1,5 +1,12 @@
 //! Which rule a line of a network's script breaks by where it stands.
+ghost use Rattle.std.specs.Prelude.{◌≡◌, ◌⊎◌, ℕ, List, Some, option_map};
+ghost use Rattle.bsc_text.specs.Words.{words_of};
+ghost use Rattle.bsc_network_script.specs.declared.line.Line.{Line as LineType};
+ghost use Rattle.bsc_network_script.specs.Lines.{line_of};
+ghost use Rattle.bsc_network_diagnostics.specs.Places.{IsNoHub, IsOfLink, first_of, link_rule, second_of};
+
 use crate::form::{HUB, NO_LINE, NODE, SEND};
+use crate::misplaced::Misplaced;
 use bsc_diagnostics::{
     Diagnostic, hold_destination, hold_hub_identity, hold_one_node, next_line, why_time, word_of,
 };
@@ -13,16 +20,6 @@ use std::alloc::Global;
 const NO_HUB: Diagnostic<'static> = Diagnostic::Line {
     rule: "the first line that does something has to be a hub line",
 };
-
-/// Why a line is refused where it stands.
-#[derive(Clone, Copy, Debug, PartialEq, Eq)]
-pub enum Misplaced<'a> {
-    /// It breaks this rule.
-    Rule(Diagnostic<'a>),
-    /// It is a step of a link. Where the link of this word is there, and wasn't lost, the word breaks this rule; else it is the
-    /// number of no such link.
-    Link { word: &'a [u8], rule: &'static str },
-}
 
 /// What stands after some lines, all of which were accepted.
 #[derive(Clone, Copy)]
@@ -189,7 +186,9 @@ fn hold_place<'a>(stands: Stands, line: &Line, words: &'a [u8]) -> Result<(), Di
 }
 
 /// The rule that the step of a link breaks where the link is there.
-fn rule_of_link(line: &Line) -> Option<&'static str> {
+fn rule_of_link(line: &Line) -> Option<&'static str>
+    ensures { option_map (λ rule. rule.now) result ≡ link_rule line.now }
+{
     match line {
         Line::Step(WorldStep::Arrive { .. }) => {
             Some("is the number of a link where nothing stands on this way")
@@ -204,13 +203,38 @@ fn rule_of_link(line: &Line) -> Option<&'static str> {
     }
 }
 
+/// The first of these words; no octets where there is none.
+fn first_of(words: &[u8]) -> &[u8]
+    ensures { result.now ≡ first_of (words_of words.now) }
+{
+    match next_word(words) {
+        Some((word, _)) => word,
+        None => &[],
+    }
+}
+
+/// The words behind the first.
+fn behind_first(line: &[u8]) -> &[u8]
+    ensures { first_of (words_of result.now) ≡ second_of (words_of line.now) }
+{
+    match next_word(line) {
+        Some((_, words)) => words,
+        None => &[],
+    }
+}
+
 /// Why a line is refused behind lines after which this stands, by the words after its first.
-fn why_behind<'a>(stands: Stands, line: &Line, words: &'a [u8]) -> Misplaced<'a> {
+fn why_behind<'a>(stands: Stands, line: &Line, words: &'a [u8]) -> Misplaced<'a>
+    ensures { (rule : List ℕ) → link_rule line.now ≡ Some rule → IsNoHub result ⊎ IsOfLink result (first_of (words_of words.now)) rule }
+{
     if stands.hubs == 0 && !matches!(line, Line::Hub(_)) {
         return Misplaced::Rule(NO_HUB);
     }
-    if let (Some(rule), Some((word, _))) = (rule_of_link(line), next_word(words)) {
-        return Misplaced::Link { word, rule };
+    if let Some(rule) = rule_of_link(line) {
+        return Misplaced::Link {
+            word: first_of(words),
+            rule,
+        };
     }
     match hold_place(stands, line, words) {
         Err(reason) => Misplaced::Rule(reason),
@@ -219,13 +243,17 @@ fn why_behind<'a>(stands: Stands, line: &Line, words: &'a [u8]) -> Misplaced<'a>
 }
 
 /// Why a line is refused by where it stands, behind these lines, all of which were accepted.
-pub fn why_network_place<'a>(alloc: Global, before: &[u8], line: &'a [u8]) -> Misplaced<'a> {
-    let words = match next_word(line) {
-        Some((_, words)) => words,
-        None => &[],
-    };
+pub fn why_network_place<'a>(alloc: Global, before: &[u8], line: &'a [u8]) -> Misplaced<'a>
+    // Of the step of a link it is told which word names the link, and what is wrong with one that is there; or that no hub is.
+    ensures link { (said : LineType) (rule : List ℕ) → line_of line.now ≡ Some said → link_rule said ≡ Some rule
+        → IsNoHub result ⊎ IsOfLink result (second_of (words_of line.now)) rule }
+{
     let Ok(said) = read_line(alloc, line) else {
         return Misplaced::Rule(NO_LINE);
     };
-    why_behind(after_lines(alloc, before, node_in(&said)), &said, words)
+    why_behind(
+        after_lines(alloc, before, node_in(&said)),
+        &said,
+        behind_first(line),
+    )
 }

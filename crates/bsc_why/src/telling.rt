@@ -9,6 +9,7 @@ use bsc_words_diagnostics::why_words;
 use std::alloc::Global;
 use std::io::{self, Eprint};
 use std::net::{Ipv4Addr, Net, SocketAddr};
+use std::str;
 
 /// What was heard of a run.
 #[derive(Clone, Copy)]
@@ -35,6 +36,8 @@ pub struct Heard<'a> {
     pub door: DoorNote,
     /// Whether a line couldn't be written into the hub's own journal.
     pub has_lost_a_line: bool,
+    /// Why the journals of an audit aren't one legal history, where that was told.
+    pub why: Option<&'a [u8]>,
 }
 
 /// The status of words that are refused.
@@ -54,6 +57,9 @@ const SETTINGS: u8 = 5;
 
 /// The status of a port that can't be bound, or takes no more links.
 const LINK: u8 = 6;
+
+/// The status of journals that aren't one legal history.
+const ILLEGAL: u8 = 10;
 
 /// Of words that are refused: why, and who says how to call the program.
 fn of_words(alloc: Global, heard: &Heard<'_>) -> Result<Option<String>, NoMemory> {
@@ -209,6 +215,17 @@ fn bind_error<R: Net>(rt: &R, door: DoorNote) -> Option<io::Error> {
     }
 }
 
+/// Of journals that aren't one legal history: why, as the audit found it.
+fn of_history(alloc: Global, heard: &Heard<'_>) -> Result<Option<String>, NoMemory> {
+    let Some(why) = heard.why else {
+        return Ok(None);
+    };
+    match str::from_utf8(why) {
+        Ok(why) => Ok(Some(format!(in alloc; "{why}")?)),
+        Err(_) => Ok(None),
+    }
+}
+
 /// What is told of a run that ended with this status, and of a port that couldn't be bound for this.
 fn line_of(
     alloc: Global,
@@ -234,11 +251,14 @@ fn line_of(
     if status == LINK {
         return of_link(alloc, heard, error);
     }
+    if status == ILLEGAL {
+        return of_history(alloc, heard);
+    }
     Ok(None)
 }
 
-/// Tells on standard error why a run ended with this status, where a word, a line, a read, a setting, a port or the hub's own journal
-/// is at fault. It writes one line, or none where there is no memory for it.
+/// Tells on standard error why a run ended with this status, where a word, a line, a read, a setting, a port, the hub's own journal
+/// or an audited history is at fault. It writes one line, or none where there is no memory for it.
 pub fn tell<R: Eprint + Net>(rt: &R, alloc: Global, status: u8, heard: &Heard<'_>) {
     let error = if status == LINK {
         bind_error(rt, heard.door)

@@ -89,7 +89,7 @@ some_history o h so sorted perm places =
     let all = spots_of_entries o 0 (pieces_of o) so.said h.spots.items so.heeds.all so.heeds.places (told_here o h so) in
     history_of o sorted (recursion_from_All (IsSpotOfOne o) sorted (All-permutation (IsSpotOfOne o) h.spots.items sorted perm (All-from_recursion (IsSpotOfOne o) h.spots.items all))) places
 
-tells : (o : List ℕ) (h : Heard) (so : HasHeardAll o h) (about : About) (sorted : List Spot) (H : List Entry) → h.hubs ≡ 1 → h.about ≡ Some about → IsPermutation h.spots.items sorted → AreInOrder o sorted H → Tells o about H
+pub tells : (o : List ℕ) (h : Heard) (so : HasHeardAll o h) (about : About) (sorted : List Spot) (H : List Entry) → h.hubs ≡ 1 → h.about ≡ Some about → IsPermutation h.spots.items sorted → AreInOrder o sorted H → Tells o about H
 tells o h so about sorted H one is perm order =
     let pieces = pieces_of o in
     let hubs : hubs_of so.said ≡ about ∷ [] = one_hub (hubs_of so.said) about (sym so.heeds.hubs ∙ one) (sym so.heeds.about ∙ is) in

@@ -1,0 +1,13 @@
+use Rattle.std.proofs.Common.{ℕ, List, ◌++◌, codes}
+use Rattle.bsc_lines.specs.Lines.{then_number}
+use Rattle.bsc_lines.proofs.Chains.{behind}
+use Rattle.bsc_audit_diagnostics.proofs.texts.put_calls.Goals as goal
+
+pub returns : goal.returns
+returns c =
+    let o = c.put_words-2.result in
+    let z = c.put_words-2.new.text.items in
+    let r2 : List ℕ = codes " calls, and had answered them" in
+    let r1 : List ℕ = then_number c.args.limit ++ r2 in
+    behind o c.args.text.now.items c.put_words.new.text.items (codes "the hub answers") r1 z c.in_ok-put_words.ensures
+    (behind o c.put_words.new.text.items c.put_then.new.text.items (then_number c.args.limit) r2 z c.in_ok-put_then.ensures c.put_words-2.ensures)
