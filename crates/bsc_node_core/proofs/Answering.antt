@@ -1,12 +1,13 @@
 -- What a node keeps and its address resolution go on standing for its log, where a question is answered.
-use Rattle.std.proofs.Common.{◌≡◌, ℕ, Bool, true, false, ◌&&◌, List, [], ◌∷◌, ◌++◌, length, take, Option, refl, ap, sym, ◌∙◌, subst}
-use Rattle.std.specs.Prelude.{◌-◌, ◌==◌}
+use Rattle.std.proofs.Common.{◌≡◌, ℕ, Bool, true, false, ◌&&◌, List, [], ◌∷◌, ◌++◌, Option, refl, ap, sym, ◌∙◌, subst}
+use Rattle.std.specs.Prelude.{◌==◌}
 use Rattle.std.proofs.lemmas.List.{append-nil}
 use Rattle.bsc_octets.specs.declared.vmac.Vmac.{Vmac}
 use Rattle.bsc_frame.specs.declared.message.Message.{Message}
 use Rattle.bsc_resolve.specs.declared.call.ResolveCall.{ResolveCall}
 use Rattle.bsc_resolve.specs.declared.call.ResolveCall.TheVariants.{Answered, Refused}
 use Rattle.bsc_resolve.specs.declared.resolve.Resolve.{Resolve}
+use Rattle.bsc_resolve.specs.Resolving.{awaits as awaits_answer}
 use Rattle.bsc_resolve.specs.Standing.{ResolveStands, AnswersAnswer, AnswersRefusal, if_it_counts}
 use Rattle.bsc_node.specs.declared.link_name.LinkName.{LinkName}
 use Rattle.bsc_node.specs.declared.note.Note.TheVariants.{Uris, Nak}
@@ -18,7 +19,7 @@ use Rattle.bsc_node.specs.Receiving.{sender, learns, drops_question, takes_nak}
 use Rattle.bsc_node_core.specs.declared.state.State.{State}
 use Rattle.bsc_node_core.specs.Standing.{Base}
 use Rattle.bsc_node_core.specs.Resolving.{BothStand}
-use Rattle.bsc_node_core.proofs.Asking.{two-in-order, both-told, both-word, before-newest}
+use Rattle.bsc_node_core.proofs.Asking.{two-in-order, both-told, both-word}
 
 -- no line more
 pub both-at-rest : (b : Base) (out : List Action) (s : State) (r : Resolve) (L : Log) (lines : List Line) → lines ≡ [] → BothStand b out s r L → BothStand b out s r (L ++ lines)
@@ -35,11 +36,16 @@ learns-by a msg id uris from L c i e =
 same-resolve : (r : Resolve) (wait : ℕ) (calls : List ResolveCall) (call : ResolveCall) (c d : Bool) → c ≡ d → ResolveStands r wait (if_it_counts c calls call) → ResolveStands r wait (if_it_counts d calls call)
 same-resolve r wait calls call c d e h = subst (λ (x : Bool). ResolveStands r wait (if_it_counts x calls call)) e h
 
+-- whether the question is under way, by what is kept
+abbrev pub Awaits : Resolve → ℕ → Vmac → Bool → Type 0
+Awaits r id from c = (wait : ℕ) (calls : List ResolveCall) → ResolveStands r wait calls → c ≡ awaits_answer wait calls id from
+
 -- The answer counts.
 pub both-learnt : (b : Base) (out later : List Action) (s : State) (r r' : Resolve) (L : Log) (msg : Message) (id : ℕ) (uris copied : List ℕ) (from : Vmac) (c : Bool) → msg.id ≡ id → copied ≡ uris → later ≡ out ++ Tell (Uris from copied) ∷ []
-    → AnswersAnswer r r' id from uris c → c ≡ true → BothStand b out s r L → BothStand b later s r' (L ++ learns b.made msg uris from L)
-both-learnt b out later s r r' L msg id uris copied from c i same le answers counts h =
+    → AnswersAnswer r r' id from uris c → Awaits r id from true → BothStand b out s r L → BothStand b later s r' (L ++ learns b.made msg uris from L)
+both-learnt b out later s r r' L msg id uris copied from c i same le answers asked h =
     let a = answers b.made.limits.times.connect_wait (resolve_calls L) h.resolution in
+    let counts : c ≡ true = a.0 ∙ sym (asked b.made.limits.times.connect_wait (resolve_calls L) h.resolution) in
     let call : ResolveCall = Answered id from uris in
     let M : Log = L ++ resolution call ∷ [] in
     let both : BothStand b out s r' M = both-told b out s r r' L call (same-resolve r' b.made.limits.times.connect_wait (resolve_calls L) call c true counts a.1) h in
@@ -47,14 +53,11 @@ both-learnt b out later s r r' L msg id uris copied from c i same le answers cou
     (two-in-order (BothStand b later s r') L (resolution_sees call) (tells (Uris from uris))
     (both-word b out later s r' r' M (did (Tell (Uris from uris)) ∷ []) (Uris from uris) (le ∙ ap (λ x. out ++ Tell (Uris from x) ∷ []) same) refl (λ wait calls stands. stands) both))
 
--- The answer doesn't count, and what was told is taken back.
-pub both-not-learnt : (b : Base) (out told later : List Action) (s : State) (r r' : Resolve) (L : Log) (msg : Message) (id : ℕ) (uris : List ℕ) (from : Vmac) (newest : Action) (c : Bool) → msg.id ≡ id → told ≡ out ++ newest ∷ []
-    → later ≡ take (length told - 1) told → AnswersAnswer r r' id from uris c → c ≡ false → BothStand b out s r L → BothStand b later s r' (L ++ learns b.made msg uris from L)
-both-not-learnt b out told later s r r' L msg id uris from newest c i te le answers counts h =
-    let a = answers b.made.limits.times.connect_wait (resolve_calls L) h.resolution in
-    subst (λ os. BothStand b os s r' (L ++ learns b.made msg uris from L)) (sym (le ∙ before-newest out told newest te))
-    (both-at-rest b out s r' L (learns b.made msg uris from L) (learns-by b.made msg id uris from L false i (sym counts ∙ a.0))
-    (record { state = h.state; resolution = same-resolve r' b.made.limits.times.connect_wait (resolve_calls L) (Answered id from uris) c false counts a.1 }))
+-- The answer doesn't count.
+pub both-not-learnt : (b : Base) (out : List Action) (s : State) (r : Resolve) (L : Log) (msg : Message) (id : ℕ) (uris : List ℕ) (from : Vmac) → msg.id ≡ id
+    → Awaits r id from false → BothStand b out s r L → BothStand b out s r (L ++ learns b.made msg uris from L)
+both-not-learnt b out s r L msg id uris from i asked h =
+    both-at-rest b out s r L (learns b.made msg uris from L) (learns-by b.made msg id uris from L false i (asked b.made.limits.times.connect_wait (resolve_calls L) h.resolution)) h
 
 -- ---- a question is dropped
 

@@ -18,6 +18,7 @@ use Rattle.bsc_initiate.specs.declared.stage.Stage.TheVariants.{AwaitingWebsocke
 use Rattle.bsc_initiate.specs.declared.initiating.Initiating.{Initiating}
 use Rattle.bsc_initiate.specs.declared.event.InitEvent.{InitEvent}
 use Rattle.bsc_initiate.specs.declared.event.InitEvent.TheVariants.{Opened, Message as Came, Finish, Tick}
+use Rattle.bsc_initiate.specs.declared.step.InitStep.{InitStep}
 use Rattle.bsc_initiate.specs.Past as I
 use Rattle.bsc_initiate.specs.Kept.{standing_at}
 use Rattle.bsc_initiate.specs.Standing as IN
@@ -27,7 +28,6 @@ use Rattle.bsc_node.specs.declared.action.Action.{Action}
 use Rattle.bsc_node.specs.Logs.{Made, Line, initiating, accepting, Log, now, next_id}
 use Rattle.bsc_node.specs.Links.{Outcome, is_there, was_taken, start, initiating_events, request, accepts_by, origin_of, by_machine, opens, hears, ticks, finishes, verdict, is_in_connected}
 use Rattle.bsc_node.specs.Conditions.{is_dialling, is_open, has_opened}
-use Rattle.bsc_node_core.specs.declared.deed.Deed.{Deed}
 use Rattle.bsc_node_core.specs.declared.machine.Machine.{Machine}
 use Rattle.bsc_node_core.specs.declared.machine.Machine.TheVariants.{Dialled, Taken}
 use Rattle.bsc_node_core.specs.declared.state.State.{State}
@@ -179,7 +179,7 @@ origin-is time (Carry envelope) = refl
 origin-is time (Silent check) = refl
 origin-is time (Nak check octets) = refl
 
-pub told-from : (b : Base) (out : List Action) (s : State) (L : Log) (name : LinkName) (time : ℕ) (v : Verdict) (d : Deed) → HasTold b out s L name (outcome_of (origin_of (Came time v)) (message_in v) d) → HasTold b out s L name (outcome_of (origin_in v) (message_in v) d)
+pub told-from : (b : Base) (out : List Action) (s : State) (L : Log) (name : LinkName) (time : ℕ) (v : Verdict) (d : InitStep) → HasTold b out s L name (outcome_of (origin_of (Came time v)) (message_in v) d) → HasTold b out s L name (outcome_of (origin_in v) (message_in v) d)
 told-from b out s L name time v d h = subst (λ (o : Option Vmac). HasTold b out s L name (outcome_of o (message_in v) d)) (origin-is time v) h
 
 -- ---- whether what an accepting machine does nothing with is for the node

@@ -21,6 +21,7 @@ pub mod NextUris
 pub mod Followed
 pub mod Naming
 pub mod Told
+pub mod Stepped
 pub mod Hearing
 pub mod Finishing
 pub mod Taking

@@ -1,6 +1,6 @@
 -- What a log says with one line more.
 use Rattle.std.proofs.Common.{◌≡◌, ℕ, ◌+◌, Bool, true, false, cond, ◌||◌, List, [], ◌∷◌, ◌++◌, Option, Some, None, unwrap_or, refl, ap, ◌∙◌, arith}
-use Rattle.std.specs.Prelude.{◌-◌, ◌%◌, filter_map, count_by}
+use Rattle.std.specs.Prelude.{◌%◌, filter_map, count_by}
 use Rattle.std.specs.List.{list_any}
 use Rattle.std.specs.Option.{option_or, option_map}
 use Rattle.std.proofs.lemmas.List.Elements.{filter_map-append}

@@ -5,6 +5,8 @@ use Rattle.bsc_octets.specs.declared.vmac.Vmac.{Vmac}
 use Rattle.bsc_octets.specs.declared.identity.Identity.{Identity}
 use Rattle.bsc_frame.specs.declared.message.Message.{Message}
 use Rattle.bsc_accept.specs.declared.closing.Closing.{Closing}
+use Rattle.bsc_initiate.specs.declared.step.InitStep.{InitStep}
+use Rattle.bsc_initiate.specs.declared.step.InitStep.TheVariants.{Up, Nothing}
 use Rattle.bsc_node.specs.declared.link_name.LinkName.{LinkName}
 use Rattle.bsc_node.specs.declared.action.Action.{Action}
 use Rattle.bsc_node.specs.declared.action.Action.TheVariants.{Put, Close}
@@ -13,8 +15,6 @@ use Rattle.bsc_node.specs.Links.{Outcome, puts, puts_and_closes, closes, meets, 
 use Rattle.bsc_node.specs.Ending.{ends, closes_link}
 use Rattle.bsc_node.specs.Meeting.{meets_peer, is_refused_by}
 use Rattle.bsc_node.specs.Events.{obeys_by, obeys}
-use Rattle.bsc_node_core.specs.declared.deed.Deed.{Deed}
-use Rattle.bsc_node_core.specs.declared.deed.Deed.TheVariants.{Up, Nothing}
 use Rattle.bsc_node_core.specs.declared.state.State.{State}
 use Rattle.bsc_node_core.specs.Rules.{outcome_of}
 use Rattle.bsc_node_core.specs.Standing.{Base, Stands}
@@ -22,10 +22,10 @@ use Rattle.bsc_node_core.specs.Telling.{busy_with, HasTold}
 use Rattle.bsc_node_core.proofs.Carrying.{regrouped}
 use Rattle.bsc_node_core.proofs.Settling.{settles}
 
--- What was told has the outcome of the deed.
-pub told-by : (b : Base) (out : List Action) (s : State) (L : Log) (name : LinkName) (origin : Option Vmac) (msg : Option Message) (deed d : Deed) → deed ≡ d → HasTold b out s L name (outcome_of origin msg deed)
+-- What was told has the outcome of the step.
+pub told-by : (b : Base) (out : List Action) (s : State) (L : Log) (name : LinkName) (origin : Option Vmac) (msg : Option Message) (step d : InitStep) → step ≡ d → HasTold b out s L name (outcome_of origin msg step)
     → HasTold b out s L name (outcome_of origin msg d)
-told-by b out s L name origin msg deed d e told = subst (λ (x : Deed). HasTold b out s L name (outcome_of origin msg x)) e told
+told-by b out s L name origin msg step d e told = subst (λ (x : InitStep). HasTold b out s L name (outcome_of origin msg x)) e told
 
 -- What follows from the newest step, once what follows from this outcome came about.
 obeyed : (b : Base) (out out' : List Action) (s s' : State) (L : Log) (name : LinkName) (u : Outcome) → HasTold b out s L name u → Stands b out' s' (L ++ obeys_by b.made name u L) → Stands b out' s' (L ++ obeys b.made name L)
@@ -70,7 +70,7 @@ passed-still : (b : Base) (out : List Action) (s : State) (L : Log) (name : Link
 passed-still b out s L name origin msg e told = subst (λ (m : Option Message). HasTold b out s L name (outcome_of origin m Up)) e told
 
 -- A message that doesn't come is passed up, or the step is nothing to the node.
-pub obeyed-nothing : (b : Base) (out : List Action) (s : State) (L : Log) (name : LinkName) (origin : Option Vmac) (msg : Option Message) (deed : Deed) → b.busy ≡ None → (deed ≡ Up → msg ≡ None)
-    → HasTold b out s L name (outcome_of origin msg deed) → (deed ≡ Up) ⊎ (deed ≡ Nothing) → Stands b out s (L ++ obeys b.made name L)
-obeyed-nothing b out s L name origin msg deed none p told (inl e) = obeyed-still b out s L name none (passed-still b out s L name origin msg (p e) (told-by b out s L name origin msg deed Up e told))
-obeyed-nothing b out s L name origin msg deed none p told (inr e) = obeyed-still b out s L name none (told-by b out s L name origin msg deed Nothing e told)
+pub obeyed-nothing : (b : Base) (out : List Action) (s : State) (L : Log) (name : LinkName) (origin : Option Vmac) (msg : Option Message) (step : InitStep) → b.busy ≡ None → (step ≡ Up → msg ≡ None)
+    → HasTold b out s L name (outcome_of origin msg step) → (step ≡ Up) ⊎ (step ≡ Nothing) → Stands b out s (L ++ obeys b.made name L)
+obeyed-nothing b out s L name origin msg step none p told (inl e) = obeyed-still b out s L name none (passed-still b out s L name origin msg (p e) (told-by b out s L name origin msg step Up e told))
+obeyed-nothing b out s L name origin msg step none p told (inr e) = obeyed-still b out s L name none (told-by b out s L name origin msg step Nothing e told)

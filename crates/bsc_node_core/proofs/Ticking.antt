@@ -20,8 +20,8 @@ use Rattle.bsc_node.specs.Events.{obeys_by, obeys, ticks_link}
 use Rattle.bsc_node.proofs.Calm.{is_calm}
 use Rattle.bsc_node.proofs.Quiet.{calm-ticked}
 use Rattle.bsc_node.proofs.Told.{outcome-initiating}
-use Rattle.bsc_node_core.specs.declared.deed.Deed.{Deed}
-use Rattle.bsc_node_core.specs.declared.deed.Deed.TheVariants.{Up}
+use Rattle.bsc_initiate.specs.declared.step.InitStep.{InitStep}
+use Rattle.bsc_initiate.specs.declared.step.InitStep.TheVariants.{Up}
 use Rattle.bsc_node_core.specs.declared.state.State.{State}
 use Rattle.bsc_node_core.specs.Resolving.{BothStand, asked_by}
 use Rattle.bsc_node_core.specs.Rules.{outcome_of}
@@ -53,28 +53,28 @@ ticked b out s L name t h =
 -- ---- a message
 
 -- A message is for the node.
-pub heard-up : (b : Base) (out out' : List Action) (s s' : State) (r r' : Resolve) (L M : Log) (name : LinkName) (origin : Option Vmac) (passed : Option Message) (deed : Deed) (msg : Message) → deed ≡ Up → passed ≡ Some msg
-    → b.busy ≡ None → ResolveStands r b.made.limits.times.connect_wait (resolve_calls L) → HasTold (asked_by L b) out s M name (outcome_of origin passed deed)
+pub heard-up : (b : Base) (out out' : List Action) (s s' : State) (r r' : Resolve) (L M : Log) (name : LinkName) (origin : Option Vmac) (passed : Option Message) (step : InitStep) (msg : Message) → step ≡ Up → passed ≡ Some msg
+    → b.busy ≡ None → ResolveStands r b.made.limits.times.connect_wait (resolve_calls L) → HasTold (asked_by L b) out s M name (outcome_of origin passed step)
     → (BothStand b out s r M → BothStand b out' s' r' (M ++ takes_up b.made name msg M)) → BothStand b out' s' r' (M ++ obeys b.made name M)
-heard-up b out out' s s' r r' L M name origin passed deed msg d p none h told goes =
+heard-up b out out' s s' r r' L M name origin passed step msg d p none h told goes =
     subst (λ (u : Outcome). BothStand b out' s' r' (M ++ obeys_by b.made name u M)) (sym up.newest)
     (goes (both-still b out s r L M h (settles (asked_by L b) out s M name none up.left up.stands)))
   where
     up : HasTold (asked_by L b) out s M name (passes_up msg)
-    up = subst (λ (x : Option Message). HasTold (asked_by L b) out s M name (outcome_of origin x Up)) p (subst (λ (x : Deed). HasTold (asked_by L b) out s M name (outcome_of origin passed x)) d told)
+    up = subst (λ (x : Option Message). HasTold (asked_by L b) out s M name (outcome_of origin x Up)) p (subst (λ (x : InitStep). HasTold (asked_by L b) out s M name (outcome_of origin passed x)) d told)
 
 -- Nothing passed.
-pub heard-nothing : (b : Base) (out : List Action) (s : State) (r : Resolve) (L M : Log) (name : LinkName) (origin : Option Vmac) (passed : Option Message) (deed : Deed) → deed ≡ Up → passed ≡ None
-    → b.busy ≡ None → ResolveStands r b.made.limits.times.connect_wait (resolve_calls L) → HasTold (asked_by L b) out s M name (outcome_of origin passed deed) → BothStand b out s r (M ++ obeys b.made name M)
-heard-nothing b out s r L M name origin passed deed d p none h told =
+pub heard-nothing : (b : Base) (out : List Action) (s : State) (r : Resolve) (L M : Log) (name : LinkName) (origin : Option Vmac) (passed : Option Message) (step : InitStep) → step ≡ Up → passed ≡ None
+    → b.busy ≡ None → ResolveStands r b.made.limits.times.connect_wait (resolve_calls L) → HasTold (asked_by L b) out s M name (outcome_of origin passed step) → BothStand b out s r (M ++ obeys b.made name M)
+heard-nothing b out s r L M name origin passed step d p none h told =
     subst (λ (u : Outcome). BothStand b out s r (M ++ obeys_by b.made name u M)) (sym still.newest)
     (subst (λ (N : Log). BothStand b out s r N) (sym (append-nil M)) (both-still b out s r L M h (settles (asked_by L b) out s M name none still.left still.stands)))
   where
     still : HasTold (asked_by L b) out s M name keeps_still
-    still = subst (λ (x : Option Message). HasTold (asked_by L b) out s M name (outcome_of origin x Up)) p (subst (λ (x : Deed). HasTold (asked_by L b) out s M name (outcome_of origin passed x)) d told)
+    still = subst (λ (x : Option Message). HasTold (asked_by L b) out s M name (outcome_of origin x Up)) p (subst (λ (x : InitStep). HasTold (asked_by L b) out s M name (outcome_of origin passed x)) d told)
 
 -- What a step is, with the address and the message.
-pub told-with : (b : Base) (out : List Action) (s : State) (M : Log) (name : LinkName) (origin from : Option Vmac) (passed msg : Option Message) (deed : Deed) → from ≡ origin → msg ≡ passed → HasTold b out s M name (outcome_of origin passed deed)
-    → HasTold b out s M name (outcome_of from msg deed)
-told-with b out s M name origin from passed msg deed o p h =
-    subst (λ (x : Option Vmac). HasTold b out s M name (outcome_of x msg deed)) (sym o) (subst (λ (x : Option Message). HasTold b out s M name (outcome_of origin x deed)) (sym p) h)
+pub told-with : (b : Base) (out : List Action) (s : State) (M : Log) (name : LinkName) (origin from : Option Vmac) (passed msg : Option Message) (step : InitStep) → from ≡ origin → msg ≡ passed → HasTold b out s M name (outcome_of origin passed step)
+    → HasTold b out s M name (outcome_of from msg step)
+told-with b out s M name origin from passed msg step o p h =
+    subst (λ (x : Option Vmac). HasTold b out s M name (outcome_of x msg step)) (sym o) (subst (λ (x : Option Message). HasTold b out s M name (outcome_of origin x step)) (sym p) h)

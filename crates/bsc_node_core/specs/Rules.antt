@@ -11,6 +11,8 @@ use Rattle.bsc_accept.specs.declared.event.Event.TheVariants.{Message as AcceptM
 use Rattle.bsc_accept.specs.Past as AcceptingPast
 use Rattle.bsc_initiate.specs.declared.event.InitEvent.{InitEvent}
 use Rattle.bsc_initiate.specs.declared.event.InitEvent.TheVariants.{Message as InitMessage}
+use Rattle.bsc_initiate.specs.declared.step.InitStep.{InitStep}
+use Rattle.bsc_initiate.specs.declared.step.InitStep.TheVariants.{Put, PutClose, Close, Connected, Refused, Up, Nothing}
 use Rattle.bsc_connector.specs.declared.hub_use.HubUse.{HubUse}
 use Rattle.bsc_direct.specs.declared.routes.Route.{Route}
 use Rattle.bsc_direct.specs.declared.routes.Route.TheVariants.{Direct as ByDirect, Hub as ByHub, NoPath as ByNone}
@@ -20,8 +22,6 @@ use Rattle.bsc_node.specs.declared.note.Note.TheVariants.{DirectDown}
 use Rattle.bsc_node.specs.Logs.{Rule, nothing, tells, where_found}
 use Rattle.bsc_node.specs.Hubs.{link_in_use}
 use Rattle.bsc_node.specs.Ways as Ways
-use Rattle.bsc_node_core.specs.declared.deed.Deed.{Deed}
-use Rattle.bsc_node_core.specs.declared.deed.Deed.TheVariants.{Put, PutClose, Close, Met, Refused, Up, Nothing}
 use Rattle.bsc_node_core.specs.declared.way.Way.{Way}
 
 -- ---- ways
@@ -64,12 +64,12 @@ abbrev pub goes_up : Event → AcceptingPast.Standing → Bool
 goes_up (AcceptMessage now v) AcceptingPast.connected = true
 goes_up e standing = false
 
--- What a deed is, with the address that a message came from and the message, where one came.
-abbrev pub outcome_of : Option Vmac → Option Message → Deed → Outcome
-outcome_of origin msg (Put o) = puts o
-outcome_of origin msg (PutClose o closing) = puts_and_closes o closing
+-- What a step is to the node, with the address that a message came from and the message, where one came.
+abbrev pub outcome_of : Option Vmac → Option Message → InitStep → Outcome
+outcome_of origin msg (Put o) = puts o.items
+outcome_of origin msg (PutClose o closing) = puts_and_closes o.items closing
 outcome_of origin msg (Close closing) = closes closing
-outcome_of origin msg (Met who) = meets who
+outcome_of origin msg (Connected who) = meets who
 outcome_of origin msg (Refused code) = is_refused origin code
 outcome_of origin msg Up = up_from msg
 outcome_of origin msg Nothing = keeps_still

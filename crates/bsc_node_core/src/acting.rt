@@ -1,5 +1,5 @@
 //! The actions of a node that change what it keeps, one each.
-ghost use Rattle.std.specs.Prelude.{◌≡◌, ◌<◌, ◌+◌, ◌%◌, ◌^◌, ◌∷◌, ◌++◌, if◌then◌else◌, true, false, List, [], OnOk};
+ghost use Rattle.std.specs.Prelude.{◌≡◌, ◌<◌, ◌+◌, ◌%◌, ◌^◌, ◌∷◌, ◌++◌, if◌then◌else◌, true, false, List, [], IfOk, OnOk};
 ghost use Rattle.bsc_connector.specs.Standing.{MayCome};
 ghost use Rattle.bsc_node.specs.declared.action.Action.{Action};
 ghost use Rattle.bsc_connector.specs.declared.side.Side.{Side};
@@ -14,12 +14,14 @@ use crate::actions::Actions;
 use crate::machine::Machine;
 use crate::messages::is_response;
 use crate::state::State;
+use arrayvec::ArrayVec;
 use bsc_accept::{Accepting, Closing, Times};
 use bsc_connector::{ConnectorEvent, ConnectorStep, Side};
 use bsc_direct::SLOTS;
 use bsc_initiate::Initiating;
 use bsc_node::{Action, LinkName, Note};
 use bsc_octets::{NoMemory, Octets};
+use std::alloc::Global;
 
 /// Tells the user something.
 pub(crate) fn tell(out: &mut Actions, note: Note) -> Result<(), NoMemory>
@@ -76,6 +78,13 @@ fn dropped_after(event: ConnectorEvent, dropped: bool) -> bool
     }
 }
 
+/// These octets in memory of their own.
+fn owned(alloc: Global, octets: &[u8]) -> Result<Octets, NoMemory>
+    ensures { IfOk result (λ o. o ≡ octets.now) }
+{
+    Ok(Octets::from_vec(Vec::from_slice(alloc, octets)?))
+}
+
 impl State {
     /// A message of the node was put: the next one has the next number, and after FFFF comes 0000.
     pub(crate) fn count(&mut self)
@@ -98,6 +107,21 @@ impl State {
         out.push(Action::Put(name, octets))?;
         self.next = next;
         Ok(())
+    }
+
+    /// Puts a message that a machine made.
+    pub(crate) fn put_made(
+        &mut self,
+        out: &mut Actions,
+        alloc: Global,
+        name: LinkName,
+        octets: &ArrayVec<u8, 32>,
+    ) -> Result<(), NoMemory>
+        ensures direct { OnOk result (self.new.direct ≡ self.old.direct) }
+        ensures goes { OnOk result (FollowsAlways (λ a. does (Action.Put name octets.now.items)) out.old self.old out.new self.new) }
+    {
+        let copy = owned(alloc, octets.as_slice())?;
+        self.put(out, name, copy)
     }
 
     /// Closes a link.

@@ -22,11 +22,12 @@ ghost use Rattle.bsc_node_core.specs.Telling.{busy_with};
 use crate::acting::tell;
 use crate::actions::Actions;
 use crate::at::At;
-use crate::deed::Deed;
 use crate::state::State;
+use arrayvec::ArrayVec;
 use bsc_accept::Closing;
 use bsc_connector::{ConnectorEvent, ConnectorStep, HubUse, Side};
 use bsc_direct::SLOTS;
+use bsc_initiate::InitStep;
 use bsc_node::{LinkName, NodeLimits, Note};
 use bsc_octets::{NoMemory, Octets};
 use std::alloc::Global;
@@ -53,18 +54,22 @@ impl State {
     pub(crate) fn carry_out(
         &mut self,
         out: &mut Actions,
+        alloc: Global,
         name: LinkName,
-        deed: Deed,
+        step: InitStep,
     ) -> Result<(), NoMemory>
         ensures direct { OnOk result (self.new.direct ≡ self.old.direct) }
         ensures goes { OnOk result ((origin : Option Vmac) (msg : Option Message)
-            → FollowsAlways (λ a. carries_out_by name (outcome_of origin msg deed)) out.old self.old out.new self.new) }
+            → FollowsAlways (λ a. carries_out_by name (outcome_of origin msg step)) out.old self.old out.new self.new) }
     {
-        match deed {
-            Deed::Put(octets) => self.put(out, name, octets),
-            Deed::PutClose(octets, closing) => self.put_and_close(out, name, octets, closing),
-            Deed::Close(closing) => self.close(out, name, closing),
-            Deed::Met(_) | Deed::Refused(_) | Deed::Up | Deed::Nothing => Ok(()),
+        match step {
+            InitStep::Put(octets) => self.put_made(out, alloc, name, &octets),
+            InitStep::PutClose(octets, closing) => {
+                self.put_and_close(out, alloc, name, &octets, closing)
+            }
+            InitStep::Close(closing) => self.close(out, name, closing),
+            InitStep::Connected(_) | InitStep::Refused { .. } | InitStep::Up | InitStep::Nothing =>
+                { Ok(()) }
         }
     }
 
@@ -72,15 +77,16 @@ impl State {
     fn put_and_close(
         &mut self,
         out: &mut Actions,
+        alloc: Global,
         name: LinkName,
-        octets: Octets,
+        octets: &ArrayVec<u8, 32>,
         closing: Closing,
     ) -> Result<(), NoMemory>
         ensures direct { OnOk result (self.new.direct ≡ self.old.direct) }
-        ensures goes { OnOk result (FollowsAlways (λ a. in_order (does (Action.Put name octets) ∷ does (Action.Close name closing) ∷ []))
+        ensures goes { OnOk result (FollowsAlways (λ a. in_order (does (Action.Put name octets.now.items) ∷ does (Action.Close name closing) ∷ []))
             out.old self.old out.new self.new) }
     {
-        self.put(out, name, octets)?;
+        self.put_made(out, alloc, name, octets)?;
         self.close(out, name, closing)
     }
 
@@ -95,8 +101,8 @@ impl State {
             → Stands b out.new self.new (L ++ finishes_machine b.made name L)) }
     {
         if self.links.is_there(name) {
-            let deed = self.finishes(at.alloc, at.time, name)?;
-            self.carry_out(out, name, deed)
+            let step = self.finishes(at.time, name);
+            self.carry_out(out, at.alloc, name, step)
         } else {
             Ok(())
         }

@@ -24,13 +24,13 @@ ghost use Rattle.std.specs.Str.{IsUtf8};
 use crate::acting::tell;
 use crate::actions::Actions;
 use crate::at::At;
-use crate::deed::Deed;
 use crate::machines::{message_in, origin_in};
 use crate::receiving::take_up;
 use crate::state::State;
 use bsc_accept::Closing;
 use bsc_checks::Verdict;
 use bsc_connector::{ConnectorEvent, Side};
+use bsc_initiate::InitStep;
 use bsc_node::{Action, LinkName, NodeEvent, Note, RENEWALS};
 use bsc_octets::{NoMemory, Octets, random48};
 use bsc_resolve::Resolve;
@@ -136,20 +136,20 @@ fn obey_heard(
     at: &At,
     name: LinkName,
     verdict: Verdict,
-    deed: Deed,
+    step: InitStep,
 ) -> Result<(), NoMemory>
     requires { IfSome at.now.limits.now.uris IsUtf8 }
     ensures goes { OnOk result ((b : Base) (L : Log) (M : Log) → IsAtRest at.now b → is_name name ≡ true
         → ((who : Identity) → outcome b.made M name ≡ meets who → same_vmac who.vmac broadcast ≡ false)
         → ResolveStands resolve.old b.made.limits.times.connect_wait (resolve_calls L)
-        → HasTold (asked_by L b) out.old state.old M name (outcome_of (origin_in verdict) (message_in verdict) deed)
+        → HasTold (asked_by L b) out.old state.old M name (outcome_of (origin_in verdict) (message_in verdict) step)
         → BothStand b out.new state.new resolve.new (M ++ obeys b.made name M)) }
     ensures err { OnErr result (IsUnchanged resolve.old resolve.new) }
 {
     let origin = origin_in(&verdict);
     let passed = message_in(verdict);
-    match deed {
-        Deed::Up => match passed {
+    match step {
+        InitStep::Up => match passed {
             Some(message) => take_up(state, out, resolve, at, name, message),
             None => Ok(()),
         },
@@ -173,6 +173,6 @@ pub(crate) fn hear(
     ensures err { OnErr result (IsUnchanged resolve.old resolve.new) }
 {
     let verdict = state.verdict(at.alloc, name, octets.as_slice())?;
-    let deed = state.hears(at.alloc, at.time, name, &verdict)?;
-    obey_heard(state, out, resolve, at, name, verdict, deed)
+    let step = state.hears(at.time, name, &verdict);
+    obey_heard(state, out, resolve, at, name, verdict, step)
 }

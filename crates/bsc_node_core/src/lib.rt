@@ -9,7 +9,6 @@ mod acting;
 mod actions;
 mod at;
 mod calls;
-mod deed;
 mod ending;
 mod failing;
 mod following;

@@ -5,14 +5,14 @@ ghost use Rattle.bsc_octets.specs.declared.identity.Identity.{Identity};
 ghost use Rattle.bsc_octets.specs.declared.vmac.Vmac.{Vmac};
 ghost use Rattle.bsc_accept.specs.declared.accepting.Accepting.{Accepting};
 ghost use Rattle.bsc_accept.specs.declared.event.Event.{Event};
-ghost use Rattle.bsc_accept.specs.Past.{standing};
+ghost use Rattle.bsc_accept.specs.Past.{Standing, standing};
 ghost use Rattle.bsc_accept.specs.Standing.{AcceptingAnswers, IsOpen as IsOpenAccepting, LeavesAccepting};
 ghost use Rattle.bsc_initiate.specs.declared.event.InitEvent.{InitEvent};
 ghost use Rattle.bsc_initiate.specs.declared.initiating.Initiating.{Initiating};
 ghost use Rattle.bsc_initiate.specs.Standing.{AwaitsWebsocket, InitiatingAnswers, IsOpen as IsOpenInitiating, LeavesInitiating};
 ghost use Rattle.bsc_node.specs.declared.action.Action.{Action};
 ghost use Rattle.bsc_node.specs.Logs.{Log, accepting, initiating};
-ghost use Rattle.bsc_node.specs.Links.{accepting_events, finishes, hears, is_there, opens, origin_of, ticks, is_in_connected};
+ghost use Rattle.bsc_node.specs.Links.{accepting_events, accepting_outcome, finishes, hears, is_there, opens, origin_of, ticks, is_in_connected};
 ghost use Rattle.bsc_node.specs.Links as Links;
 ghost use Rattle.bsc_node.specs.Conditions.{is_dialling, is_open};
 ghost use Rattle.bsc_node_core.specs.declared.machine.Machine.{Machine};
@@ -22,7 +22,6 @@ ghost use Rattle.bsc_node_core.specs.Rules.{goes_up, message_in, message_of, mes
 ghost use Rattle.bsc_node_core.specs.Standing.{Base, Stands};
 ghost use Rattle.bsc_node_core.specs.Telling.{HasTold, busy_with};
 
-use crate::deed::Deed;
 use crate::link::Link;
 use crate::machine::Machine;
 use crate::state::State;
@@ -102,237 +101,208 @@ fn is_in_connected(phase: Phase) -> bool
     }
 }
 
+/// What a step of a link that was taken is to the node, as a step of one that was dialled: who asks has named itself, as who
+/// accepts has. In Connected what the machine does nothing with is for the node. What is to be carried on isn't: a node
+/// carries nothing on, and no message that comes to it is judged so.
+pub(crate) fn as_dialled(step: Step, connected: bool) -> InitStep
+    ensures { (origin : Option Vmac) (standing : Standing) (e : Event) → goes_up e standing ≡ connected
+        → accepting_outcome standing e step ≡ outcome_of origin (message_taken e) result }
+{
+    match step {
+        Step::Ask(who) => InitStep::Connected(who),
+        Step::Put(octets) => InitStep::Put(octets),
+        Step::PutClose(octets, closing) => InitStep::PutClose(octets, closing),
+        Step::Up => InitStep::Nothing,
+        Step::Close(closing) => InitStep::Close(closing),
+        Step::Nothing => if connected {
+            InitStep::Up
+        } else {
+            InitStep::Nothing
+        },
+    }
+}
+
 impl State {
     /// The machine of a link that was dialled makes a step. What that is to the node.
     pub(crate) fn step_dialled(
         &mut self,
-        alloc: Global,
         name: LinkName,
         machine: Initiating,
         step: InitStep,
-    ) -> Result<Deed, NoMemory>
+    ) -> InitStep
         requires { LeavesInitiating step machine }
-        ensures { IfOk result (λ d. (b : Base) (out : List Action) (L : Log) (before : Initiating) (e : InitEvent)
+        ensures { (b : Base) (out : List Action) (L : Log) (before : Initiating) (e : InitEvent)
             → (link_at self.old.links name).machine ≡ Machine.Dialled before → is_name name ≡ true
             → InitiatingAnswers before machine e step → may_tell_dialled before.stage e ≡ true → Stands (busy_with name b) out self.old L
-            → HasTold b out self.new (L ++ initiating name e ∷ []) name (outcome_of (origin_of e) (message_of e) d)) }
+            → HasTold b out self.new (L ++ initiating name e ∷ []) name (outcome_of (origin_of e) (message_of e) result) }
     {
         self.links.go_on_dialled(name, machine, &step);
-        Deed::of_dialled(alloc, step)
+        step
     }
 
     /// The machine of a link that was taken makes a step. What that is to the node; in Connected a message that the
     /// machine does nothing with is for it.
     pub(crate) fn step_taken(
         &mut self,
-        alloc: Global,
         name: LinkName,
         machine: Accepting,
         step: Step,
         connected: bool,
-    ) -> Result<Deed, NoMemory>
+    ) -> InitStep
         requires { LeavesAccepting step machine }
-        ensures { IfOk result (λ d. (b : Base) (out : List Action) (L : Log) (before : Accepting) (e : Event) (origin : Option Vmac)
+        ensures { (b : Base) (out : List Action) (L : Log) (before : Accepting) (e : Event) (origin : Option Vmac)
             → taken_in (link_at self.old.links name).machine ≡ Some before → is_name name ≡ true
             → AcceptingAnswers before machine e step → may_tell_taken before.stage e ≡ true
             → goes_up e (standing (accepting_events L name)) ≡ connected → Stands (busy_with name b) out self.old L
-            → HasTold b out self.new (L ++ accepting name e ∷ []) name (outcome_of origin (message_taken e) d)) }
+            → HasTold b out self.new (L ++ accepting name e ∷ []) name (outcome_of origin (message_taken e) result) }
     {
         self.links.go_on_taken(name, machine, &step);
-        Deed::of_taken(alloc, step, connected)
+        as_dialled(step, connected)
     }
 
     /// The machine of a link that was dialled is told to finish.
-    fn finish_dialled(
-        &mut self,
-        alloc: Global,
-        now: u64,
-        name: LinkName,
-        machine: Initiating,
-    ) -> Result<Deed, NoMemory>
+    fn finish_dialled(&mut self, now: u64, name: LinkName, machine: Initiating) -> InitStep
         requires { IsOpenInitiating machine }
-        ensures { IfOk result (λ d. (b : Base) (out : List Action) (L : Log)
+        ensures { (b : Base) (out : List Action) (L : Log)
             → (link_at self.old.links name).machine ≡ Machine.Dialled machine → is_name name ≡ true → Stands (busy_with name b) out self.old L
-            → HasTold b out self.new (L ++ initiating name (InitEvent.Finish now self.old.next) ∷ []) name (outcome_of None None d)) }
+            → HasTold b out self.new (L ++ initiating name (InitEvent.Finish now self.old.next) ∷ []) name (outcome_of None None result) }
     {
         let mut machine = machine;
         let step = machine.finish(now, self.next);
-        self.step_dialled(alloc, name, machine, step)
+        self.step_dialled(name, machine, step)
     }
 
     /// The machine of a link that was taken is told to finish.
-    fn finish_taken(
-        &mut self,
-        alloc: Global,
-        now: u64,
-        name: LinkName,
-        machine: Accepting,
-    ) -> Result<Deed, NoMemory>
+    fn finish_taken(&mut self, now: u64, name: LinkName, machine: Accepting) -> InitStep
         requires { IsOpenAccepting machine }
-        ensures { IfOk result (λ d. (b : Base) (out : List Action) (L : Log)
+        ensures { (b : Base) (out : List Action) (L : Log)
             → (link_at self.old.links name).machine ≡ Machine.Taken machine → is_name name ≡ true → Stands (busy_with name b) out self.old L
-            → HasTold b out self.new (L ++ accepting name (Event.Finish now self.old.next) ∷ []) name (outcome_of None None d)) }
+            → HasTold b out self.new (L ++ accepting name (Event.Finish now self.old.next) ∷ []) name (outcome_of None None result) }
     {
         let mut machine = machine;
         let step = machine.finish(now, self.next);
-        self.step_taken(alloc, name, machine, step, false)
+        self.step_taken(name, machine, step, false)
     }
 
     /// The machine of a link that is there is told to finish. What its step is to the node.
-    pub(crate) fn finishes(
-        &mut self,
-        alloc: Global,
-        now: u64,
-        name: LinkName,
-    ) -> Result<Deed, NoMemory>
-        ensures { IfOk result (λ d. (b : Base) (out : List Action) (L : Log) → b.now ≡ now → b.busy ≡ None → is_name name ≡ true
+    pub(crate) fn finishes(&mut self, now: u64, name: LinkName) -> InitStep
+        ensures { (b : Base) (out : List Action) (L : Log) → b.now ≡ now → b.busy ≡ None → is_name name ≡ true
             → is_there name L ≡ true → Stands b out self.old L
-            → HasTold b out self.new (L ++ finishes name L) name (outcome_of None None d)) }
+            → HasTold b out self.new (L ++ finishes name L) name (outcome_of None None result) }
     {
         match self.links.get(name).machine {
-            Machine::Dialled(machine) => self.finish_dialled(alloc, now, name, machine),
-            Machine::Taken(machine) => self.finish_taken(alloc, now, name, machine),
-            Machine::Gone | Machine::Over | Machine::Asked(_) => Ok(Deed::Nothing),
+            Machine::Dialled(machine) => self.finish_dialled(now, name, machine),
+            Machine::Taken(machine) => self.finish_taken(now, name, machine),
+            Machine::Gone | Machine::Over | Machine::Asked(_) => InitStep::Nothing,
         }
     }
 
     /// The machine of a link that was dialled is told the time.
-    fn tick_dialled(
-        &mut self,
-        alloc: Global,
-        now: u64,
-        name: LinkName,
-        machine: Initiating,
-    ) -> Result<Deed, NoMemory>
+    fn tick_dialled(&mut self, now: u64, name: LinkName, machine: Initiating) -> InitStep
         requires { IsOpenInitiating machine }
-        ensures { IfOk result (λ d. (b : Base) (out : List Action) (L : Log)
+        ensures { (b : Base) (out : List Action) (L : Log)
             → (link_at self.old.links name).machine ≡ Machine.Dialled machine → is_name name ≡ true → Stands (busy_with name b) out self.old L
-            → HasTold b out self.new (L ++ initiating name (InitEvent.Tick now self.old.next) ∷ []) name (outcome_of None None d)) }
+            → HasTold b out self.new (L ++ initiating name (InitEvent.Tick now self.old.next) ∷ []) name (outcome_of None None result) }
     {
         let mut machine = machine;
         let step = machine.tick(now, self.next);
-        self.step_dialled(alloc, name, machine, step)
+        self.step_dialled(name, machine, step)
     }
 
     /// The machine of a link that was taken is told the time.
-    fn tick_taken(
-        &mut self,
-        alloc: Global,
-        now: u64,
-        name: LinkName,
-        machine: Accepting,
-    ) -> Result<Deed, NoMemory>
+    fn tick_taken(&mut self, now: u64, name: LinkName, machine: Accepting) -> InitStep
         requires { IsOpenAccepting machine }
-        ensures { IfOk result (λ d. (b : Base) (out : List Action) (L : Log)
+        ensures { (b : Base) (out : List Action) (L : Log)
             → (link_at self.old.links name).machine ≡ Machine.Taken machine → is_name name ≡ true → Stands (busy_with name b) out self.old L
-            → HasTold b out self.new (L ++ accepting name (Event.Tick now) ∷ []) name (outcome_of None None d)) }
+            → HasTold b out self.new (L ++ accepting name (Event.Tick now) ∷ []) name (outcome_of None None result) }
     {
         let mut machine = machine;
         let step = machine.tick(now);
-        self.step_taken(alloc, name, machine, step, false)
+        self.step_taken(name, machine, step, false)
     }
 
     /// The machine of a link that is there is told the time. What its step is to the node.
-    pub(crate) fn ticks(
-        &mut self,
-        alloc: Global,
-        now: u64,
-        name: LinkName,
-    ) -> Result<Deed, NoMemory>
-        ensures { IfOk result (λ d. (b : Base) (out : List Action) (L : Log) → b.now ≡ now → b.busy ≡ None → is_name name ≡ true
+    pub(crate) fn ticks(&mut self, now: u64, name: LinkName) -> InitStep
+        ensures { (b : Base) (out : List Action) (L : Log) → b.now ≡ now → b.busy ≡ None → is_name name ≡ true
             → is_there name L ≡ true → Stands b out self.old L
-            → HasTold b out self.new (L ++ ticks name L) name (outcome_of None None d)) }
+            → HasTold b out self.new (L ++ ticks name L) name (outcome_of None None result) }
     {
         match self.links.get(name).machine {
-            Machine::Dialled(machine) => self.tick_dialled(alloc, now, name, machine),
-            Machine::Taken(machine) => self.tick_taken(alloc, now, name, machine),
-            Machine::Gone | Machine::Over | Machine::Asked(_) => Ok(Deed::Nothing),
+            Machine::Dialled(machine) => self.tick_dialled(now, name, machine),
+            Machine::Taken(machine) => self.tick_taken(now, name, machine),
+            Machine::Gone | Machine::Over | Machine::Asked(_) => InitStep::Nothing,
         }
     }
 
     /// The machine of a link that was dialled is told that its WebSocket has opened.
-    fn open_dialled(
-        &mut self,
-        alloc: Global,
-        now: u64,
-        name: LinkName,
-        machine: Initiating,
-    ) -> Result<Deed, NoMemory>
+    fn open_dialled(&mut self, now: u64, name: LinkName, machine: Initiating) -> InitStep
         requires { AwaitsWebsocket machine }
-        ensures { IfOk result (λ d. (b : Base) (out : List Action) (L : Log)
+        ensures { (b : Base) (out : List Action) (L : Log)
             → (link_at self.old.links name).machine ≡ Machine.Dialled machine → is_name name ≡ true → Stands (busy_with name b) out self.old L
-            → HasTold b out self.new (L ++ initiating name (InitEvent.Opened now self.old.next) ∷ []) name (outcome_of None None d)) }
+            → HasTold b out self.new (L ++ initiating name (InitEvent.Opened now self.old.next) ∷ []) name (outcome_of None None result) }
     {
         let mut machine = machine;
         let step = machine.opened(now, self.next);
-        self.step_dialled(alloc, name, machine, step)
+        self.step_dialled(name, machine, step)
     }
 
     /// The machine of a link that is under way is told that its WebSocket has opened. What its step is to the node.
-    pub(crate) fn opens(
-        &mut self,
-        alloc: Global,
-        now: u64,
-        name: LinkName,
-    ) -> Result<Deed, NoMemory>
-        ensures { IfOk result (λ d. (b : Base) (out : List Action) (L : Log) → b.now ≡ now → b.busy ≡ None → is_name name ≡ true
+    pub(crate) fn opens(&mut self, now: u64, name: LinkName) -> InitStep
+        ensures { (b : Base) (out : List Action) (L : Log) → b.now ≡ now → b.busy ≡ None → is_name name ≡ true
             → is_dialling name L ≡ true → Stands b out self.old L
-            → HasTold b out self.new (L ++ opens name L) name (outcome_of None None d)) }
+            → HasTold b out self.new (L ++ opens name L) name (outcome_of None None result) }
     {
         match self.links.get(name).machine {
             Machine::Dialled(machine) => {
                 if machine.phase().is_some() {
-                    return Ok(Deed::Nothing);
+                    return InitStep::Nothing;
                 }
-                self.open_dialled(alloc, now, name, machine)
+                self.open_dialled(now, name, machine)
             }
-            Machine::Gone | Machine::Over | Machine::Taken(_) | Machine::Asked(_) => {
-                Ok(Deed::Nothing)
-            }
+            Machine::Gone | Machine::Over | Machine::Taken(_) | Machine::Asked(_) =>
+                InitStep::Nothing,
         }
     }
 
     /// The machine of a link that was dialled gets a message, with its verdict.
     fn hear_dialled(
         &mut self,
-        alloc: Global,
         now: u64,
         name: LinkName,
         machine: Initiating,
         verdict: &Verdict,
-    ) -> Result<Deed, NoMemory>
+    ) -> InitStep
         requires { IsOpenInitiating machine }
-        ensures { IfOk result (λ d. (b : Base) (out : List Action) (L : Log)
+        ensures { (b : Base) (out : List Action) (L : Log)
             → (link_at self.old.links name).machine ≡ Machine.Dialled machine → is_name name ≡ true
             → may_tell_dialled machine.stage (InitEvent.Message now verdict.now) ≡ true
             → Stands (busy_with name b) out self.old L
             → HasTold b out self.new (L ++ initiating name (InitEvent.Message now verdict.now) ∷ []) name
-            (outcome_of (origin_in verdict.now) (message_in verdict.now) d)) }
+            (outcome_of (origin_in verdict.now) (message_in verdict.now) result) }
     {
         let mut machine = machine;
         let step = machine.message(now, verdict);
-        self.step_dialled(alloc, name, machine, step)
+        self.step_dialled(name, machine, step)
     }
 
     /// The machine of a link that was taken gets a message, with its verdict.
     fn hear_taken(
         &mut self,
-        alloc: Global,
         now: u64,
         name: LinkName,
         machine: Accepting,
         verdict: &Verdict,
-    ) -> Result<Deed, NoMemory>
+    ) -> InitStep
         requires { IsOpenAccepting machine }
-        ensures { IfOk result (λ d. (b : Base) (out : List Action) (L : Log)
+        ensures { (b : Base) (out : List Action) (L : Log)
             → (link_at self.old.links name).machine ≡ Machine.Taken machine → is_name name ≡ true → Stands (busy_with name b) out self.old L
             → HasTold b out self.new (L ++ accepting name (Event.Message now verdict.now) ∷ []) name
-            (outcome_of (origin_in verdict.now) (message_in verdict.now) d)) }
+            (outcome_of (origin_in verdict.now) (message_in verdict.now) result) }
     {
         let mut machine = machine;
         let connected = is_in_connected(machine.phase());
         let step = machine.message(now, verdict);
-        self.step_taken(alloc, name, machine, step, connected)
+        self.step_taken(name, machine, step, connected)
     }
 
     /// What becomes of the octets that come over a link that is open.
@@ -350,21 +320,15 @@ impl State {
     }
 
     /// The machine of a link that is open gets a message, with its verdict. What its step is to the node.
-    pub(crate) fn hears(
-        &mut self,
-        alloc: Global,
-        now: u64,
-        name: LinkName,
-        verdict: &Verdict,
-    ) -> Result<Deed, NoMemory>
-        ensures { IfOk result (λ d. (b : Base) (out : List Action) (L : Log) (o : List ℕ) → b.now ≡ now → b.busy ≡ None
+    pub(crate) fn hears(&mut self, now: u64, name: LinkName, verdict: &Verdict) -> InitStep
+        ensures { (b : Base) (out : List Action) (L : Log) (o : List ℕ) → b.now ≡ now → b.busy ≡ None
             → is_name name ≡ true → is_open name L ≡ true → Links.verdict b.made L name o ≡ verdict.now → Stands b out self.old L
-            → HasTold b out self.new (L ++ hears b.made name o L) name (outcome_of (origin_in verdict.now) (message_in verdict.now) d)) }
+            → HasTold b out self.new (L ++ hears b.made name o L) name (outcome_of (origin_in verdict.now) (message_in verdict.now) result) }
     {
         match self.links.get(name).machine {
-            Machine::Dialled(machine) => self.hear_dialled(alloc, now, name, machine, verdict),
-            Machine::Taken(machine) => self.hear_taken(alloc, now, name, machine, verdict),
-            Machine::Gone | Machine::Over | Machine::Asked(_) => Ok(Deed::Nothing),
+            Machine::Dialled(machine) => self.hear_dialled(now, name, machine, verdict),
+            Machine::Taken(machine) => self.hear_taken(now, name, machine, verdict),
+            Machine::Gone | Machine::Over | Machine::Asked(_) => InitStep::Nothing,
         }
     }
 }

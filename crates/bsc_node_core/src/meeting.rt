@@ -23,8 +23,8 @@ ghost use Rattle.bsc_node_core.specs.Resting.{FollowsAtRest, IsAtRest};
 use crate::acting::tell;
 use crate::actions::Actions;
 use crate::at::At;
-use crate::deed::Deed;
 use crate::machine::Machine;
+use crate::machines::as_dialled;
 use crate::state::State;
 use bsc_accept::{Accepting, Closing};
 use bsc_connector::{ConnectorEvent, Side};
@@ -124,7 +124,7 @@ impl State {
         let mut machine = machine;
         let step = machine.joined();
         self.links.go_on_taken(name, machine, &step);
-        self.carry_out(out, name, Deed::of_taken(alloc, step, false)?)
+        self.carry_out(out, alloc, name, as_dialled(step, false))
     }
 
     /// Who asked is refused, since its VMAC is taken.
@@ -145,7 +145,7 @@ impl State {
         let mut machine = machine;
         let step = machine.refused(&Refusal::Duplicate { holder: None });
         self.links.go_on_taken(name, machine, &step);
-        self.carry_out(out, name, Deed::of_taken(alloc, step, false)?)
+        self.carry_out(out, alloc, name, as_dialled(step, false))
     }
 
     /// A peer that dialled this node gets the Connect-Accept and is established, or is refused.

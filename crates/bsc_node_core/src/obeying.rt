@@ -9,7 +9,7 @@ ghost use Rattle.bsc_node.specs.Conditions.{is_dialling};
 ghost use Rattle.bsc_node.specs.Logs.{Log, in_order};
 ghost use Rattle.bsc_node.specs.Links.{meets, opens, outcome};
 ghost use Rattle.bsc_node.specs.Events.{obeys, ticks_link};
-ghost use Rattle.bsc_node_core.specs.declared.deed.Deed.{Deed};
+ghost use Rattle.bsc_initiate.specs.declared.step.InitStep.{InitStep};
 ghost use Rattle.bsc_node_core.specs.Tables.{is_name};
 ghost use Rattle.bsc_node_core.specs.Rules.{outcome_of};
 ghost use Rattle.bsc_node_core.specs.Resting.{FollowsAtRest, IsAtRest};
@@ -18,9 +18,9 @@ ghost use Rattle.bsc_node_core.specs.Telling.{HasTold};
 
 use crate::actions::Actions;
 use crate::at::At;
-use crate::deed::Deed;
 use crate::state::State;
 use bsc_direct::SLOTS;
+use bsc_initiate::InitStep;
 use bsc_node::LinkName;
 use bsc_octets::{NoMemory, Vmac};
 
@@ -32,22 +32,22 @@ impl State {
         at: &At,
         name: LinkName,
         origin: Option<Vmac>,
-        deed: Deed,
+        step: InitStep,
     ) -> Result<(), NoMemory>
         ensures { OnOk result ((b : Base) (L : Log) (msg : Option Message) → IsAtRest at.now b → is_name name ≡ true
-            → ((who : Identity) → outcome b.made L name ≡ meets who → same_vmac who.vmac broadcast ≡ false) → (deed ≡ Deed.Up → msg ≡ None)
-            → HasTold b out.old self.old L name (outcome_of origin msg deed) → Stands b out.new self.new (L ++ obeys b.made name L)) }
+            → ((who : Identity) → outcome b.made L name ≡ meets who → same_vmac who.vmac broadcast ≡ false) → (step ≡ InitStep.Up → msg ≡ None)
+            → HasTold b out.old self.old L name (outcome_of origin msg step) → Stands b out.new self.new (L ++ obeys b.made name L)) }
     {
-        match deed {
-            Deed::Put(octets) => self.put(out, name, octets),
-            Deed::PutClose(octets, closing) => {
-                self.put(out, name, octets)?;
+        match step {
+            InitStep::Put(octets) => self.put_made(out, at.alloc, name, &octets),
+            InitStep::PutClose(octets, closing) => {
+                self.put_made(out, at.alloc, name, &octets)?;
                 self.close_link(out, at, name, closing)
             }
-            Deed::Close(closing) => self.close_link(out, at, name, closing),
-            Deed::Met(who) => self.meet_peer(out, at, name, who),
-            Deed::Refused(code) => self.be_refused(out, at, name, origin, code),
-            Deed::Up | Deed::Nothing => Ok(()),
+            InitStep::Close(closing) => self.close_link(out, at, name, closing),
+            InitStep::Connected(who) => self.meet_peer(out, at, name, who),
+            InitStep::Refused { code } => self.be_refused(out, at, name, origin, code),
+            InitStep::Up | InitStep::Nothing => Ok(()),
         }
     }
 
@@ -62,8 +62,8 @@ impl State {
             → is_dialling name L ≡ true → Stands b out.old self.old L
             → Stands b out.new self.new (L ++ in_order (opens name ∷ obeys b.made name ∷ []) L)) }
     {
-        let deed = self.opens(at.alloc, at.time, name)?;
-        self.obey(out, at, name, None, deed)
+        let step = self.opens(at.time, name);
+        self.obey(out, at, name, None, step)
     }
 
     /// The machine of a link that is there is told the time.
@@ -78,8 +78,8 @@ impl State {
             → Stands b out.new self.new (L ++ ticks_link b.made name L)) }
     {
         if self.links.is_there(name) {
-            let deed = self.ticks(at.alloc, at.time, name)?;
-            self.obey(out, at, name, None, deed)
+            let step = self.ticks(at.time, name);
+            self.obey(out, at, name, None, step)
         } else {
             Ok(())
         }

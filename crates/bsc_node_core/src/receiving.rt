@@ -201,11 +201,11 @@ fn learn(
         → BothStand b out.old s resolve.old L → BothStand b out.new s resolve.new (L ++ learns b.made msg uris from L)) }
     ensures err { OnErr result (IsUnchanged resolve.old resolve.new) }
 {
-    tell(out, Note::Uris(from, uris.copy(alloc)?))?;
-    if resolve.answered(id, from, uris) {
+    if resolve.awaits(id, from) {
+        tell(out, Note::Uris(from, uris.copy(alloc)?))?;
+        let _ = resolve.answered(id, from, uris);
         Ok(())
     } else {
-        out.take_back();
         Ok(())
     }
 }

@@ -247,6 +247,15 @@ as_before old new waits items wait calls s = record {
 awaits_by : (r : Resolve) (wait : ℕ) (calls : List ResolveCall) (id : ℕ) (v : Vmac) → ResolveStands r wait calls → has_id id (kept_question (entry_of r.entries.items v)) ≡ awaits wait calls id v
 awaits_by r wait calls id v s = ap (has_id id) (s.agrees.question v)
 
+-- whether the question of an ID is under way
+pub awaits_kept : (r : Resolve) (id : ℕ) (v : Vmac) (wait : ℕ) (calls : List ResolveCall) → ResolveStands r wait calls
+    → is_some (awaiting_place r.entries.items id v) ≡ awaits wait calls id v
+awaits_kept r id v wait calls s = by (awaiting_place r.entries.items id v) refl
+  where
+    by : (o : Option ℕ) → awaiting_place r.entries.items id v ≡ o → is_some (awaiting_place r.entries.items id v) ≡ awaits wait calls id v
+    by None e = ap is_some e ∙ sym (awaiting_none r.entries.items id v e) ∙ awaits_by r wait calls id v s
+    by (Some place) e = ap is_some e ∙ sym ((awaiting_is r.entries.items id v place e).1) ∙ awaits_by r wait calls id v s
+
 -- the entry and the question with that ID
 had : (id : ℕ) (o : Option Entry) → has_id id (kept_question o) ≡ true → (e : Entry) × (q : Question) × (o ≡ Some e) × (kept_question o ≡ Some q) × ((q.id == id) ≡ true)
 had id None h = cc

@@ -2,7 +2,7 @@
 ghost use Rattle.std.specs.Prelude.{◌≡◌, ℕ, false, List, [], Some, None, IfOk, IfErr, OnOk, OnErr, option_copied, position};
 ghost use Rattle.bsc_octets.specs.Addresses.{same_vmac};
 ghost use Rattle.bsc_resolve.specs.declared.call.ResolveCall.{ResolveCall};
-ghost use Rattle.bsc_resolve.specs.Resolving.{learnt};
+ghost use Rattle.bsc_resolve.specs.Resolving.{awaits, learnt};
 ghost use Rattle.bsc_resolve.specs.Kept.{awaiting_place};
 ghost use Rattle.bsc_resolve.specs.Standing.{ResolveStands, IsAsked, IsAskRefused, AnswersAnswer, AnswersRefusal, StandsOn, IsUnchanged};
 
@@ -73,6 +73,13 @@ impl Resolve {
             Ok(()) => Ok(()),
             Err(NoMemory) => Err(AskRefusal::NoMemory),
         }
+    }
+
+    /// Whether the question for a VMAC with this Message ID is under way.
+    pub fn awaits(&self, id: u16, v: Vmac) -> bool
+        ensures { (wait : ℕ) (calls : List ResolveCall) → ResolveStands self.now wait calls → result ≡ awaits wait calls id v }
+    {
+        self.awaiting(id, v).is_some()
     }
 
     /// Learns the URIs of a VMAC by the answer to the question with this Message ID. Whether it was under way: nothing

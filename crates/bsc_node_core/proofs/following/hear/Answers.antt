@@ -14,7 +14,7 @@ returns-clause-goes c = on_ok_weaker c.obey_heard.result
     let a = asked_by L b in
     let M = L ++ hears b.made c.args.name c.args.octets.now L in
     let v = ap (verdict b.made L c.args.name) (sym c.as_slice.ensures) ∙ c.in_ok-verdict.ensures a c.args.out.now L r.2 n o h in
-    let told = c.in_ok-deed.ensures a c.args.out.now L c.args.octets.now r.1 r.2 n o v h in
+    let told = c.hears-step.ensures a c.args.out.now L c.args.octets.now r.1 r.2 n o v h in
     two-in-order (BothStand b _ _ _) L (hears b.made c.args.name c.args.octets.now) (obeys b.made c.args.name)
     (g b L M r n (λ who. met-unicast b.made c.args.name c.args.octets.now L who) both.resolution told))
     c.obey_heard.ensures.goes

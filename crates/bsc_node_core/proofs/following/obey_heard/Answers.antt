@@ -9,13 +9,13 @@ use Rattle.bsc_node_core.proofs.following.obey_heard.Goals as goal
 pub returns-in-Some-clause-goes : goal.returns-in-Some-clause-goes
 returns-in-Some-clause-goes c = on_ok_weaker c.take_up.result
     (λ g b L M rest n unicast r told.
-    heard-up b c.args.out.now _ c.args.state.now _ c.args.resolve.now _ L M c.args.name c.origin_in-origin.result c.message_in-passed.result c.args.deed c.in-Some.message c.in-Up.is c.in-Some.is rest.2 r
+    heard-up b c.args.out.now _ c.args.state.now _ c.args.resolve.now _ L M c.args.name c.origin_in-origin.result c.message_in-passed.result c.args.step c.in-Some.message c.in-Up.is c.in-Some.is rest.2 r
     (told-with (asked_by L b) c.args.out.now c.args.state.now M c.args.name _ _ _ _ _ c.origin_in-origin.ensures c.message_in-passed.ensures told) (λ both. g b M rest.0 n both))
     c.take_up.ensures.goes
 
 pub returns-in-None-clause-goes : goal.returns-in-None-clause-goes
 returns-in-None-clause-goes c = λ b L M rest n unicast r told.
-    heard-nothing b c.args.out.now c.args.state.now c.args.resolve.now L M c.args.name c.origin_in-origin.result c.message_in-passed.result c.args.deed c.in-Up.is c.in-None.is rest.2 r
+    heard-nothing b c.args.out.now c.args.state.now c.args.resolve.now L M c.args.name c.origin_in-origin.result c.message_in-passed.result c.args.step c.in-Up.is c.in-None.is rest.2 r
     (told-with (asked_by L b) c.args.out.now c.args.state.now M c.args.name _ _ _ _ _ c.origin_in-origin.ensures c.message_in-passed.ensures told)
 
 pub returns-in_default-clause-goes : goal.returns-in_default-clause-goes

@@ -6,11 +6,11 @@ use Rattle.bsc_node_core.proofs.Branching.{when-not}
 use Rattle.bsc_node_core.proofs.Finishing.{finished}
 use Rattle.bsc_node_core.proofs.state.State.finish_machine.Goals as goal
 
-pub returns-in_ok-deed : goal.returns-in_ok-deed
-returns-in_ok-deed c = on_ok_weaker c.carry_out.result
+pub returns-then-is_there : goal.returns-then-is_there
+returns-then-is_there c = on_ok_weaker c.carry_out.result
     (λ g b L w none n h.
     let t = (h.links c.args.name n).there ∙ sym c.is_there.ensures ∙ c.if-is_there.true in
-    finished b c.args.out.now _ _ _ L c.args.name _ none n t (c.in_ok-deed.ensures b c.args.out.now L w none n t h) (λ d k. g None None d _ k))
+    finished b c.args.out.now _ _ _ L c.args.name _ none n t (c.finishes-step.ensures b c.args.out.now L w none n t h) (λ d k. g None None d _ k))
     c.carry_out.ensures.goes
 
 pub returns-else-is_there : goal.returns-else-is_there

@@ -1,7 +1,6 @@
 use Rattle.std.proofs.Common.{ap, sym, ◌∙◌}
 use Rattle.std.specs.Prelude.{is_some}
 use Rattle.std.proofs.lemmas.Bool.{false≢true}
-use Rattle.std.proofs.lemmas.Result.{IfOk-weaker}
 use Rattle.bsc_node.specs.Links.{initiating_events, start}
 use Rattle.bsc_node_core.specs.Machines.{is_fit}
 use Rattle.bsc_node_core.specs.Tables.{Kept}
@@ -18,8 +17,6 @@ returns-then-is_some c = λ b out L w none n t h.
     absurd (false≢true (sym (ap is_some p) ∙ sym c.is_some.ensures ∙ c.if-is_some.true))
 
 pub returns-else-is_some : goal.returns-else-is_some
-returns-else-is_some c = IfOk-weaker c.open_dialled.result _ _
-    (λ d g b out L w none n t h.
+returns-else-is_some c = λ b out L w none n t h.
     let is = sym (ap (λ (k : Kept). k.machine) c.get.ensures) ∙ c.in-Dialled.is in
-    told-lines b out _ L c.args.name _ _ _ (opens-dialled b out c.args.self.now L c.args.name c.args.now n w h) (g b out L is n (is_busy b out c.args.self.now L c.args.name none h)))
-    c.open_dialled.ensures
+    told-lines b out _ L c.args.name _ _ _ (opens-dialled b out c.args.self.now L c.args.name c.args.now n w h) (c.open_dialled.ensures b out L is n (is_busy b out c.args.self.now L c.args.name none h))
