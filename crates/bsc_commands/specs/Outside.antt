@@ -10,7 +10,7 @@ module _ {S K F C V W A D N J P : Type 0} where
   TouchesOnly (Some replay) x y = y ≡ record x { sink = y.sink; source = y.source }
   TouchesOnly (Some simulate) x y = y ≡ record x { sink = y.sink; source = y.source }
   TouchesOnly (Some check) x y = y ≡ record x { sink = y.sink; source = y.source }
-  TouchesOnly (Some audit) x y = y ≡ record x { sink = y.sink; source = y.source }
+  TouchesOnly (Some audit) x y = y ≡ record x { sink = y.sink; source = y.source; why = y.why }
   TouchesOnly (Some (hub path sessions journal)) x y =
       y ≡ record x { sink = y.sink; files = y.files; place = y.place; parts = y.parts }
   TouchesOnly (Some (node path script)) x y =

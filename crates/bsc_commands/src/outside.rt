@@ -1,6 +1,7 @@
 //! What the program is handed beside its words.
 use bsc_hub_command::HubPlace;
 use bsc_node_run::NodeParts;
+use bsc_octets::Octets;
 use bsc_serve::ServingParts;
 
 /// What the program is handed beside its words.
@@ -18,4 +19,6 @@ pub struct Outside<S, K, F, C, V, W, A, D, N, J, P> {
     pub place: HubPlace<N>,
     /// What a hub is served by. A node has its clock and its acceptor from here too.
     pub parts: ServingParts<A, C, P, J>,
+    /// The place for what an audit leaves to be told: why its journals aren't one legal history.
+    pub why: Option<Octets>,
 }

@@ -181,7 +181,12 @@ fn run_asked<
             &mut outside.source,
             &mut outside.sink,
         ),
-        Asked::Audit => run_audit(alloc, &mut outside.source, &mut outside.sink),
+        Asked::Audit => run_audit(
+            alloc,
+            &mut outside.source,
+            &mut outside.sink,
+            &mut outside.why,
+        ),
         Asked::Hub {
             path,
             sessions,

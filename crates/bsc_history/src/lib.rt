@@ -2,7 +2,7 @@
 //!
 //! This is plain data, and the program stores no history: contracts speak of it. `specs/` has the
 //! definitions, a file a subject (`Entries`, `Ends`, `Holders`, `Outboxes`, `Replies`, `Counting`,
-//! `Legality`, `Marks`); `laws` has what holds of every legal history. `docs/DEFINITIONS.md` says each in
+//! `Legality`, `Marks`); `laws` has what holds of every legal history. `docs/reference/DEFINITIONS.md` says each in
 //! plain words. `standing` and `making` have the traits by which a lock speaks of a state and of the entry
 //! of a commit.
 #![tactic(auto)]

@@ -82,6 +82,7 @@ pub(crate) fn outside_of<S, K, F, C, V, W, A, D, N, J, P>(
             own: None,
         },
         parts,
+        why: None,
     }
 }
 
@@ -168,6 +169,10 @@ pub(crate) fn tell_why<
         file_error,
         door: outside.parts.acceptor.note(),
         has_lost_a_line,
+        why: match &outside.why {
+            Some(why) => Some(why.as_slice()),
+            None => None,
+        },
     };
     tell(rt, alloc, status, &heard);
 }

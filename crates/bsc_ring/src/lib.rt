@@ -3,7 +3,7 @@
 //! Start at `making`, then `pushing`, `taking` and `meeting`: these are the public calls. `specs/Ends.antt`
 //! has every word of their clauses. No call waits, none but `make` takes memory, and none takes a lock.
 //! Below them `steps` has each step on shared memory, through the kit's `atomic_table`, and
-//! `specs/Rule.antt` the rule that each of these steps keeps. `docs/RING.md` draws the ring and says the
+//! `specs/Rule.antt` the rule that each of these steps keeps. `crates/bsc_ring/README.md` draws the ring and says the
 //! rule in plain words.
 #![tactic(auto)]
 

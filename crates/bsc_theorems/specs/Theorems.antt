@@ -234,8 +234,8 @@ pub record WhatRanDelivers {L C N K W : Type 0} (talk : L → Option (List Said)
   -- So it is where what each link told to one end is the first of what it told to the other.
   pub by_wires : ran.Wires.WhatRanDeliversByWires talk faults notices readings held unput begins said drawn
 
--- What is refused or ends has the cause that is told, as far as laws say it; docs/CAUSES.md has the refusals of all calls with their clauses. That a call without
--- `rt` returns is what the check itself says of each function, and no clause; where a call may wait for others stands in 'What may wait' of docs/PROVED.md.
+-- What is refused or ends has the cause that is told, as far as laws say it; docs/reference/CAUSES.md has the refusals of all calls with their clauses. That a call without
+-- `rt` returns is what the check itself says of each function, and no clause; where a call may wait for others stands in 'What may wait' of docs/reference/PROVED.md.
 pub record RefusalsHaveTheirCauses : Type 0 where
   -- Octets that spell a message fail no check.
   pub spelled : (msg : Message) (m : List ℕ) (check : Check) → frame.Spelling.Spells msg m → frame.Checks.IsFirst check m → ⊥

@@ -120,7 +120,7 @@ module _ (exact : CausesAreExact) (job : Job) (last : Last (List Said) (List ℕ
     failed = λ because. absurd (let bad : ◌≡◌ {A = Why} Spent LinkFault = because in cc);
     unrecorded = λ because. absurd (let bad : ◌≡◌ {A = Why} Spent JournalFault = because in cc);
     later = lit≤ tt;
-    woken = record { E = []; own = sym (append-nil (own_list job.pass)); told = refl };
+    woken = refl;
   }
 
 -- A session that ends since its journal failed has raised the count of that.
