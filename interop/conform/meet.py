@@ -248,13 +248,13 @@ def dumped(path):
 
 
 def the_scripts():
-    """There are enough of them, in all groups, and no clause is named but those of docs/DEFINITIONS.md."""
+    """There are enough of them, in all groups, and no clause is named but those of docs/reference/DEFINITIONS.md."""
     found = scripts.all_scripts()
-    page = (TOP / "docs/DEFINITIONS.md").read_text(encoding="utf-8")
+    page = (TOP / "docs/reference/DEFINITIONS.md").read_text(encoding="utf-8")
     named = {it.clause for it in [*found, *rules.RULES.values()] if it.clause}
     strange = sorted(it for it in named if not re.search(rf"\b{re.escape(it)}\b(?!\.\d)", page))
     if strange:
-        say(f"docs/DEFINITIONS.md names no clause {', '.join(strange)}")
+        say(f"docs/reference/DEFINITIONS.md names no clause {', '.join(strange)}")
     counts = {group: sum(it.group == group for it in found) for group in GROUPS}
     if len(found) < LEAST or not all(counts.values()) or sum(counts.values()) != len(found):
         say(f"of {len(found)} scripts the groups have {counts}")

@@ -176,12 +176,12 @@ async def the_page(work):
 
 
 def the_cases():
-    """There are enough of them, in all groups, and no clause is named but those of docs/DEFINITIONS.md."""
-    page = (TOP / "docs/DEFINITIONS.md").read_text(encoding="utf-8")
+    """There are enough of them, in all groups, and no clause is named but those of docs/reference/DEFINITIONS.md."""
+    page = (TOP / "docs/reference/DEFINITIONS.md").read_text(encoding="utf-8")
     named = {it.clause for it in [*node_cases.CASES, *node_rules.RULES.values()] if it.clause}
     strange = sorted(it for it in named if not re.search(rf"\b{re.escape(it)}\b(?!\.\d)", page))
     if strange:
-        say(f"docs/DEFINITIONS.md names no clause {', '.join(strange)}")
+        say(f"docs/reference/DEFINITIONS.md names no clause {', '.join(strange)}")
     names = [it.name for it in node_cases.CASES]
     counts = {group: sum(it.group == group for it in node_cases.CASES) for group in GROUPS}
     if len(names) < LEAST or len(set(names)) < len(names) or not all(counts.values()) or sum(counts.values()) != len(names):

@@ -1,7 +1,7 @@
 """What stands on the links of a network in memory, step by step, by the rules of docs/NETWORK.md.
 
 A network's script says no message, and the text that is written for it says none either. Which one arrives by a step
-follows from the rules of nodes (docs/NODE.md), of their hubs (docs/HUB.md) and of the accepting machine (docs/ACCEPT.md):
+follows from the rules of nodes (docs/NODE.md), of their hubs (docs/HUB.md) and of the accepting machine (crates/bsc_accept/README.md):
 those are followed here. Nothing here is proved. Who uses it compares what is dialled and delivered with the text.
 
 Each step leaves `news`: what came about, one after the other, as tuples that begin with a word.

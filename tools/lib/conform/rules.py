@@ -1,7 +1,7 @@
 """The rules of a hub that a difference is named by: what each says, whose it is, and the clause where one is known.
 
 STANDARD is what every hub has to do; PROFILE is what this project chose where the standard leaves it open. A clause is of
-ANSI/ASHRAE 135-2020, Annex AB, as docs/DEFINITIONS.md names them; where none is known there it is empty.
+ANSI/ASHRAE 135-2020, Annex AB, as docs/reference/DEFINITIONS.md names them; where none is known there it is empty.
 """
 from typing import NamedTuple
 

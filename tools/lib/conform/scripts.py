@@ -186,7 +186,7 @@ class StandIns:
 
     def __call__(self, word):
         if re.fullmatch(r"0200000000[0-9A-F]{2}", word):
-            # Random-48, as docs/DEFINITIONS.md has it.
+            # Random-48, as docs/reference/DEFINITIONS.md has it.
             return self.words.get(word) or self.new(word, bytes([self.draw(1)[0] & 0xF0 | 2]) + self.draw(5))
         if re.fullmatch(r"([0-9A-F])\1{31}", word):
             return self.words.get(word) or self.new(word, self.draw(16))

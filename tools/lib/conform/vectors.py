@@ -12,7 +12,7 @@ FOLDER = proved.TOP / "vectors"
 COURSES = "courses"
 STANDARD, PROFILE = "standard", "profile"
 SIDE_BY_SIDE = 4  # scripts that are replayed at once
-# The clauses of ANSI/ASHRAE 135-2020 that docs/DEFINITIONS.md names for these; where none is named there is none here.
+# The clauses of ANSI/ASHRAE 135-2020 that docs/reference/DEFINITIONS.md names for these; where none is named there is none here.
 OF_CHECK = {"C1": "AB.2.1", "C2": "AB.2.10", "C3": "AB.2.2", "C5": "AB.2.2", "C7": "AB.2.3", "C7b": "AB.2.3", "C8": "AB.2.3", "C9": "AB.2.3"}
 OF_FUNCTION = {0x00: "AB.2.4", 0x06: "AB.2.10, AB.2.11", 0x07: "AB.2.10, AB.2.11"}
 FORWARDING, RESULTS, ACCEPTING, OPTIONS = "AB.5.3", "AB.2.4", "AB.6.2.3", "AB.2.3"
