@@ -1,4 +1,5 @@
 -- Lemmas that crates above cite too.
+-- It serves many crates above.
 use Rattle.bsc_accept.specs.Kept.{moved}
 use Rattle.bsc_accept.specs.Messages.{who_asks, is_farewell_answer}
 use Rattle.bsc_accept.specs.Past.{connected, awaiting_request, disconnecting, Standing, phase_named}

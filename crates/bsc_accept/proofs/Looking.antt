@@ -1,11 +1,13 @@
 -- What looking back finds in a list of events with one event more.
+-- It serves clauses of functions of `accepting`.
 use Rattle.std.proofs.Common.{◌≡◌, Bool, true, false, cond, List, [], ◌∷◌, ◌++◌, Option, Some, None, unwrap_or, refl, ap, ◌∙◌}
 use Rattle.std.specs.Option.{option_or}
 use Rattle.std.proofs.lemmas.List.{reverse-append, reverse-reverse}
 use Rattle.bsc_accept.specs.declared.event.Event.{Event}
-use Rattle.bsc_accept.specs.declared.farewell.Farewell.{Farewell}
+use Rattle.bsc_accept.specs.declared.pending_disconnect.PendingDisconnect.{PendingDisconnect}
 use Rattle.bsc_accept.specs.declared.start.Start.{Start}
-use Rattle.bsc_accept.specs.Past.{connected, awaiting_request, oldest, newest, is_joined, farewell_at, asked_at, message_time, last_message, question, question_at, since_joined, until_farewell, standing, standing_by}
+use Rattle.bsc_accept.specs.Past.{connected, awaiting_request, oldest, newest, is_joined, farewell_at, asked_at, message_time, last_message, question, question_at, since_joined}
+use Rattle.bsc_accept.specs.Past.{until_farewell, standing, standing_by}
 use Rattle.bsc_accept.specs.Kept.{moved}
 use Rattle.bsc_accept.specs.Steps.{step, closes}
 use Rattle.bsc_accept.specs.Standing.{has_closed, at_newest}
@@ -36,7 +38,7 @@ joining : (b : Bool) → standing_by (cond b (Some []) None) ≡ cond b connecte
 joining true = refl
 joining false = refl
 
-parting : (o : Option Farewell) (e : Event) → until_farewell (option_or o (farewell_at e)) ≡ moved (until_farewell o) e
+parting : (o : Option PendingDisconnect) (e : Event) → until_farewell (option_or o (farewell_at e)) ≡ moved (until_farewell o) e
 parting None e = refl
 parting (Some f) e = refl
 

@@ -1,4 +1,5 @@
 -- What an accepting machine puts of itself is no Encapsulated-NPDU, be it that of a hub or that of a direct link.
+-- It serves bsc_network_laws, bsc_node and bsc_session_laws.
 use Rattle.std.proofs.Common.{◌≡◌, ℕ, Bool, true, false, cond, List, Option, Some, None, refl, sym, subst}
 use Rattle.std.specs.Prelude.{⊤}
 use Rattle.bsc_octets.specs.declared.identity.Identity.{Identity}

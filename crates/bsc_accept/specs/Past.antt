@@ -8,7 +8,7 @@ use Rattle.bsc_checks.specs.declared.verdict.Verdict.TheVariants.{Pass}
 use Rattle.bsc_checks.specs.declared.phase.Phase.{Phase}
 use Rattle.bsc_checks.specs.declared.phase.Phase.TheVariants.{AwaitingRequest, Connected, Disconnecting}
 use Rattle.bsc_accept.specs.declared.start.Start.{Start}
-use Rattle.bsc_accept.specs.declared.farewell.Farewell.{Farewell}
+use Rattle.bsc_accept.specs.declared.pending_disconnect.PendingDisconnect.{PendingDisconnect}
 use Rattle.bsc_accept.specs.declared.event.Event.{Event}
 use Rattle.bsc_accept.specs.declared.event.Event.TheVariants.{Message as Came, Joined, Ended, Finish}
 use Rattle.bsc_accept.specs.Messages.{who_asks}
@@ -37,12 +37,12 @@ message_time e = None
 
 -- The Disconnect-Request that goes out where a connection has ended: its Message ID is 1. One that ended as full gets
 -- none, since it is closed.
-abbrev pub farewell_at_end : ℕ → End → Option Farewell
+abbrev pub farewell_at_end : ℕ → End → Option PendingDisconnect
 farewell_at_end now Full = None
 farewell_at_end now ending = Some (record { since = now; id = 1 })
 
 -- the Disconnect-Request that goes out at an event
-abbrev pub farewell_at : Event → Option Farewell
+abbrev pub farewell_at : Event → Option PendingDisconnect
 farewell_at (Ended now ending) = farewell_at_end now ending
 farewell_at (Finish now id) = Some (record { since = now; id = id })
 farewell_at e = None
@@ -74,14 +74,14 @@ question E = question_at (reverse E)
 pub data Standing : Type 0 where
   awaiting_request : Standing
   connected : Standing
-  disconnecting : Farewell → Standing
+  disconnecting : PendingDisconnect → Standing
 
 -- What came after who asked had joined, where that was told.
 abbrev pub since_joined : List Event → Option (List Event)
 since_joined [] = None
 since_joined (e ∷ later) = if is_joined e then Some later else since_joined later
 
-abbrev pub until_farewell : Option Farewell → Standing
+abbrev pub until_farewell : Option PendingDisconnect → Standing
 until_farewell None = connected
 until_farewell (Some f) = disconnecting f
 

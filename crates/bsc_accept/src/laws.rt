@@ -6,7 +6,7 @@ ghost use Rattle.bsc_checks.specs.declared.verdict.Verdict.{Verdict};
 ghost use Rattle.bsc_frame.specs.Payloads.{IsNode};
 ghost use Rattle.bsc_frame.specs.Spelling.{HasSpelling};
 ghost use Rattle.bsc_accept.specs.declared.start.Start.{Start};
-ghost use Rattle.bsc_accept.specs.declared.farewell.Farewell.{Farewell};
+ghost use Rattle.bsc_accept.specs.declared.pending_disconnect.PendingDisconnect.{PendingDisconnect};
 ghost use Rattle.bsc_accept.specs.declared.event.Event.{Event};
 ghost use Rattle.bsc_accept.specs.Messages.{connect_accept, duplicate_vmac, disconnect_request, disconnect_ack, heartbeat_ack};
 ghost use Rattle.bsc_accept.specs.Past.{phase, standing, disconnecting, last_message};
@@ -29,7 +29,7 @@ pub fn ticks_close()
         → (closes (step s E (Event.Tick now)) ≡ true) ↔ (s.times.connect_wait ≤ now - s.at) }
     ensures idle { (s : Start) (E : List Event) (now : ℕ) → phase E ≡ Phase.Connected
         → (closes (step s E (Event.Tick now)) ≡ true) ↔ (2 * s.times.heartbeat ≤ now - last_message s E) }
-    ensures disconnect_wait { (s : Start) (E : List Event) (f : Farewell) (now : ℕ) → standing E ≡ disconnecting f
+    ensures disconnect_wait { (s : Start) (E : List Event) (f : PendingDisconnect) (now : ℕ) → standing E ≡ disconnecting f
         → (closes (step s E (Event.Tick now)) ≡ true) ↔ (s.times.disconnect_wait ≤ now - f.since) }
 {}
 

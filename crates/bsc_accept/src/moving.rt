@@ -7,7 +7,7 @@ ghost use Rattle.bsc_accept.specs.Kept.{after};
 
 use crate::accepting::Accepting;
 use crate::closing::Closing;
-use crate::farewell::Farewell;
+use crate::pending_disconnect::PendingDisconnect;
 use crate::replies::disconnect_request;
 use crate::stage::Stage;
 use crate::step::Step;
@@ -46,7 +46,7 @@ impl Accepting {
         ensures step { result ≡ Step.Put (octets_of (disconnect_request id)) }
         ensures waits { self.new ≡ record self.old { stage = Stage.Disconnecting (record { since = now; id = id }) } }
     {
-        self.stage = Stage::Disconnecting(Farewell { since: now, id });
+        self.stage = Stage::Disconnecting(PendingDisconnect { since: now, id });
         Step::Put(disconnect_request(id))
     }
 }

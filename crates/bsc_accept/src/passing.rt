@@ -8,7 +8,7 @@ ghost use Rattle.bsc_accept.specs.Kept.{standing_at, after};
 
 use crate::accepting::Accepting;
 use crate::closing::Closing;
-use crate::farewell::Farewell;
+use crate::pending_disconnect::PendingDisconnect;
 use crate::replies::{disconnect_ack, heartbeat_ack};
 use crate::stage::Stage;
 use crate::step::Step;
@@ -27,7 +27,7 @@ fn is_for_disconnect(answer: &Answer) -> bool
 }
 
 /// Whether the message is the answer to a Disconnect-Request that was put.
-pub fn is_farewell_answer(farewell: Farewell, message: &Message) -> bool
+pub fn is_farewell_answer(farewell: PendingDisconnect, message: &Message) -> bool
     ensures { result ≡ is_farewell_answer farewell.id message.now }
 {
     message.id == farewell.id
@@ -83,7 +83,7 @@ impl Accepting {
     }
 
     /// A message passed while the answer to a Disconnect-Request is awaited.
-    fn answered(&mut self, farewell: Farewell, message: &Message) -> Step
+    fn answered(&mut self, farewell: PendingDisconnect, message: &Message) -> Step
         ensures step { result ≡ passed_step (disconnecting farewell) message.now }
         ensures stage { self.new ≡ record self.old { stage = after self.old.stage message.now.id result } }
     {

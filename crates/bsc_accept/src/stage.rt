@@ -1,5 +1,5 @@
 //! What a machine remembers of its events.
-use crate::farewell::Farewell;
+use crate::pending_disconnect::PendingDisconnect;
 
 /// What a machine waits for, with what it has to remember for that.
 #[derive(Clone, Copy, Debug, PartialEq, Eq)]
@@ -11,7 +11,7 @@ pub(crate) enum Stage {
     /// For messages.
     Connected,
     /// For the answer to a Disconnect-Request.
-    Disconnecting(Farewell),
+    Disconnecting(PendingDisconnect),
     /// For nothing: it closed.
     Idle,
 }

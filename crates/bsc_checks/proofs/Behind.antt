@@ -1,5 +1,7 @@
 -- What stands behind the marker of an item, and the first item that is not understood.
-use Rattle.std.proofs.Common.{◌≡◌, ◌≢◌, ℕ, ◌+◌, ◌*◌, ◌/◌, ◌%◌, ◌<◌, Bool, true, false, not, ◌&&◌, eqb, cond, List, [], ◌∷◌, ◌++◌, length, drop, Option, Some, None, is_some, refl, sym, ap, ◌∙◌, arith, length-append}
+-- It serves clauses of functions of `judging`, `laws`, `option_checks` and `understood`.
+use Rattle.std.proofs.Common.{◌≡◌, ◌≢◌, ℕ, ◌+◌, ◌*◌, ◌/◌, ◌%◌, ◌<◌, Bool, true, false, not, ◌&&◌, eqb, cond, List, [], ◌∷◌, ◌++◌, length, drop, Option, Some, None, is_some, refl}
+use Rattle.std.proofs.Common.{sym, ap, ◌∙◌, arith, length-append}
 use Rattle.std.specs.List.{AllByRecursion}
 use Rattle.std.proofs.lemmas.Bool.{eq-eqb, ne_eqb, eqb-false, and_parts, not-true}
 use Rattle.std.proofs.lemmas.List.{drop_at}
@@ -165,7 +167,15 @@ refused_at_by x xs marker true is found later =
     record { before = []; item = x; after = xs; parts = refl; earlier = tt; fault = test_true x is; marker_is = cc }
 refused_at_by x xs marker false is found later =
     let at = later found in
-    record { before = x ∷ at.before; item = at.item; after = at.after; parts = ap (λ (l : List OptionItem). x ∷ l) at.parts; earlier = (test_false x is, at.earlier); fault = at.fault; marker_is = at.marker_is }
+    record {
+      before = x ∷ at.before;
+      item = at.item;
+      after = at.after;
+      parts = ap (λ (l : List OptionItem). x ∷ l) at.parts;
+      earlier = (test_false x is, at.earlier);
+      fault = at.fault;
+      marker_is = at.marker_is;
+    }
 
 pub refused_at : (items : List OptionItem) (marker : ℕ) → marker_refused items ≡ Some marker → RefusedAt items marker
 refused_at [] marker e = absurd cc
@@ -186,9 +196,11 @@ passed_over x k rest true understood is = absurd (understood (test_true x is))
 passed_over x k rest false understood is = refl
 
 -- the marker of the first is what is computed
-pub refused_is : (before : List OptionItem) (item : OptionItem) (after : List OptionItem) → AllByRecursion (λ other. ¬ IsNotUnderstood other) before → IsNotUnderstood item → marker_refused (before ++ item ∷ after) ≡ Some (marker_of (has_items after) item)
+pub refused_is : (before : List OptionItem) (item : OptionItem) (after : List OptionItem) → AllByRecursion (λ other. ¬ IsNotUnderstood other) before → IsNotUnderstood item
+    → marker_refused (before ++ item ∷ after) ≡ Some (marker_of (has_items after) item)
 refused_is [] item after earlier fault =
     let other : eqb item.kind 1 ≡ false = ne_eqb item.kind 1 fault.1 in
     rw (fault.0, other) refl
 refused_is (x ∷ before) item after earlier fault =
-    passed_over x (marker_of (has_items (before ++ item ∷ after)) x) (marker_refused (before ++ item ∷ after)) (x.must && not (eqb x.kind 1)) earlier.0 refl ∙ refused_is before item after earlier.1 fault
+    passed_over x (marker_of (has_items (before ++ item ∷ after)) x) (marker_refused (before ++ item ∷ after)) (x.must && not (eqb x.kind 1)) earlier.0 refl
+    ∙ refused_is before item after earlier.1 fault

@@ -1,4 +1,5 @@
 -- A payload of which no check fails is that of the body that it says.
+-- It serves the clauses of `judge` and `one_outcome`.
 use Rattle.std.proofs.Common.{◌≡◌, ℕ, zero, suc, ◌<◌, ◌≤◌, ◌⊎◌, inl, inr, Bool, true, false, ltb, List, [], ◌∷◌, length, slice_index, drop, refl, sym, ◌∙◌, arith, length-drop}
 use Rattle.std.specs.Str.{IsUtf8, is_utf8}
 use Rattle.std.proofs.lemmas.Bool.{ltb-false}
@@ -52,8 +53,11 @@ result_is (x ∷ zero ∷ y ∷ rest) octets pass = absurd (pass.short (refl, om
 result_is (x ∷ suc zero ∷ rest) octets pass =
     let p = x ∷ suc zero ∷ rest in
     let long : 7 ≤ length p = at_least 0 p pass in
-    let details : IsUtf8 (drop 7 p) = is_text (drop 7 p) (λ out. pass.range (inr (inl (refl, refl, out)))) in
-    ((number_small (drop 3 p) (behind_octets 3 p octets), number_small (drop 5 p) (behind_octets 5 p octets), details), refl, nak_spelled p (drop 7 p) (big_number 2 (drop 3 p)) (big_number 2 (drop 5 p)) long octets refl refl refl refl)
+    let details : IsUtf8 (drop 7 p) = is_text (drop 7 p) (λ out. pass.range (inr (inl (refl, refl, out)))) in (
+      (number_small (drop 3 p) (behind_octets 3 p octets), number_small (drop 5 p) (behind_octets 5 p octets), details),
+      refl,
+      nak_spelled p (drop 7 p) (big_number 2 (drop 3 p)) (big_number 2 (drop 5 p)) long octets refl refl refl refl,
+    )
 result_is (x ∷ suc (suc code) ∷ rest) octets pass = absurd (pass.range (inl (refl, omega arith)))
 
 advert_is : (p : List ℕ) → AreOctets p → Passes 4 p → IsBody 4 p (body_in 4 p)

@@ -1,4 +1,5 @@
 -- Octets with room for the announced addresses begin with the envelope that is read of them.
+-- It serves the clauses of `judge` and `one_outcome`.
 use Rattle.std.proofs.Common.{◌≡◌, ℕ, ◌+◌, ◌<◌, ◌≤◌, ◌^◌, Bool, true, false, ltb, List, [], ◌∷◌, length, drop, Ok, refl, sym, subst, arith, length-drop}
 use Rattle.std.proofs.lemmas.Bool.{le-ltb}
 use Rattle.std.proofs.lemmas.List.{length-take-le}
@@ -39,7 +40,8 @@ envelope_is m e spells whole fits =
 
 -- ---- by what the flags announce
 
-found_by : (m : List ℕ) (o d : Bool) → announces_origin (flags_in m) ≡ o → announces_dest (flags_in m) ≡ d → 4 ≤ length m → options_at m ≤ length m → envelope_of m ≡ Ok (header_of m (origin_in m) (dest_in m) (options_at m))
+found_by : (m : List ℕ) (o d : Bool) → announces_origin (flags_in m) ≡ o → announces_dest (flags_in m) ≡ d → 4 ≤ length m → options_at m ≤ length m
+    → envelope_of m ≡ Ok (header_of m (origin_in m) (dest_in m) (options_at m))
 unfolding envelope_of
 found_by m true true p q four long =
     let place : options_at m ≡ 16 = rw (p, q) refl in

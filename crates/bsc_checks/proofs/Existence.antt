@@ -1,4 +1,5 @@
 -- The verdict that is computed is one that the message has.
+-- It serves the clauses of `one_outcome`.
 use Rattle.std.proofs.Common.{◌≡◌, ℕ, ◌<◌, ◌≤◌, ◌*◌, Bool, true, false, not, ◌&&◌, List, [], ◌∷◌, ◌++◌, length, Option, Some, None, is_some, IfSome, refl, sym, ap, subst, ◌∙◌, arith}
 use Rattle.byteorder.specs.Endian.{big_number}
 use Rattle.bsc_octets.specs.declared.vmac.Vmac.{Vmac}
@@ -39,7 +40,8 @@ step_true t x order is = rw (is, first_failing) refl
 step_false : (t : Check → Bool) (x : Check) (order : List Check) → t x ≡ false → first_failing t (x ∷ order) ≡ first_failing t order
 step_false t x order is = rw (is, first_failing) refl
 
-found_by : (P : Check → Type 0) (t : Check → Bool) (x : Check) (order : List Check) (k : Check) (b : Bool) → Reflects (P x) (t x) → t x ≡ b → (first_failing t order ≡ Some k → IsFirstOf order P k) → first_failing t (x ∷ order) ≡ Some k
+found_by : (P : Check → Type 0) (t : Check → Bool) (x : Check) (order : List Check) (k : Check) (b : Bool) → Reflects (P x) (t x) → t x ≡ b
+    → (first_failing t order ≡ Some k → IsFirstOf order P k) → first_failing t (x ∷ order) ≡ Some k
     → IsFirstOf (x ∷ order) P k
 found_by P t x order k true r is later e =
     let both : ◌≡◌ {A = Option Check} (Some x) (Some k) = sym (step_true t x order is) ∙ e in
@@ -51,7 +53,8 @@ first_found : (P : Check → Type 0) (t : Check → Bool) → ((k : Check) → R
 first_found P t r [] k e = absurd cc
 first_found P t r (x ∷ order) k e = found_by P t x order k (t x) (r x) refl (λ later. first_found P t r order k later) e
 
-none_by : (P : Check → Type 0) (t : Check → Bool) (x : Check) (order : List Check) (b : Bool) → Reflects (P x) (t x) → t x ≡ b → (first_failing t order ≡ None → PassAll P order) → first_failing t (x ∷ order) ≡ None → PassAll P (x ∷ order)
+none_by : (P : Check → Type 0) (t : Check → Bool) (x : Check) (order : List Check) (b : Bool) → Reflects (P x) (t x) → t x ≡ b → (first_failing t order ≡ None → PassAll P order)
+    → first_failing t (x ∷ order) ≡ None → PassAll P (x ∷ order)
 none_by P t x order true r is later e = let both : ◌≡◌ {A = Option Check} (Some x) None = sym (step_true t x order is) ∙ e in absurd cc
 none_by P t x order false r is later e = (fails_of (P x) (t x) r is, later (sym (step_false t x order is) ∙ e))
 
@@ -85,7 +88,8 @@ code_small C12 code e = let is : 144 ≡ code = cc in omega arith
 code_small k code e = absurd cc
 
 -- a check with a code comes behind those of the length
-silent_first : (fails : Check → Type 0) (j : Check) (order : List Check) (k : Check) (code : ℕ) → code_of j ≡ None → code_of k ≡ Some code → IsFirstOf (j ∷ order) fails k → (fails j → ⊥) × IsFirstOf order fails k
+silent_first : (fails : Check → Type 0) (j : Check) (order : List Check) (k : Check) (code : ℕ) → code_of j ≡ None → code_of k ≡ Some code → IsFirstOf (j ∷ order) fails k → (fails j → ⊥)
+    × IsFirstOf order fails k
 silent_first fails j order k code silent coded first = by first.before first.place first.earlier
   where
     by : (before : List Check) → j ∷ order ≡ before ++ k ∷ first.after → PassAll fails before → (fails j → ⊥) × IsFirstOf order fails k
@@ -119,16 +123,19 @@ marker_found m C9 place max octets fault =
     subst (IsFirstNotUnderstood m) (ap number_or_0 (sym is)) fault.1
 marker_found m k place max octets fault = refl
 
-nak_found : (m : List ℕ) (place : Place) (max : ℕ) (k : Check) (code : ℕ) → AreOctets m → code_of k ≡ Some code → IsAnswered m k code → IsFirst k m place max → IsNak m place k (spelling (nak_to m place (marker_for m k) code))
+nak_found : (m : List ℕ) (place : Place) (max : ℕ) (k : Check) (code : ℕ) → AreOctets m → code_of k ≡ Some code → IsAnswered m k code → IsFirst k m place max
+    → IsNak m place k (spelling (nak_to m place (marker_for m k) code))
 nak_found m place max k code octets coded answered first =
     let here = coded_room m place max k code coded first in
     let back = return_address place (origin_in m) in
     let id = big_number 2 (id_in m) in
     let marker = marker_for m k in
-    let spells = nak_spelled id back (function_in m) marker code (4 * bit (is_some back)) _ (id_small m octets) (back_whole place (origin_in m) (envelope_whole m here.1).origin) (code_small k code coded) refl refl in
+    let spells = nak_spelled id back (function_in m) marker code (4 * bit (is_some back)) _ (id_small m octets) (back_whole place (origin_in m) (envelope_whole m here.1).origin)
+    (code_small k code coded) refl refl in
     record { code = code; marker = marker; answered = answered; marker_is = marker_found m k place max octets first.fault; octets = record { legal = spells.legal; octets = refl } }
 
-answered_judged : (m : List ℕ) (place : Place) (max : ℕ) (k : Check) (code : ℕ) (b : Bool) → AreOctets m → (is_unicast (dest_in m) && not (is_response (function_in m))) ≡ b → code_of k ≡ Some code → IsFirst k m place max
+answered_judged : (m : List ℕ) (place : Place) (max : ℕ) (k : Check) (code : ℕ) (b : Bool) → AreOctets m → (is_unicast (dest_in m) && not (is_response (function_in m))) ≡ b
+    → code_of k ≡ Some code → IsFirst k m place max
     → Judged m place max (answered b m place k code)
 answered_judged m place max k code true octets is coded first =
     let both = (answers m).holds is in
@@ -143,8 +150,10 @@ refused_judged m place max k (Some code) octets coded first = answered_judged m 
 -- ---- the verdict
 
 decided_judged : (m : List ℕ) (place : Place) (max : ℕ) (r : Option Check) → AreOctets m → first_failing (fails m place max) (checks_of place m) ≡ r → Judged m place max (decided m place r)
-decided_judged m place max None octets is = accepted_judged m place max (is_to_carry place m) octets refl (none_found (Fails m place max) (fails m place max) (fails_says m place max octets) (checks_of place m) is)
-decided_judged m place max (Some k) octets is = refused_judged m place max k (code_of k) octets refl (first_found (Fails m place max) (fails m place max) (fails_says m place max octets) (checks_of place m) k is)
+decided_judged m place max None octets is = accepted_judged m place max (is_to_carry place m) octets refl
+    (none_found (Fails m place max) (fails m place max) (fails_says m place max octets) (checks_of place m) is)
+decided_judged m place max (Some k) octets is = refused_judged m place max k (code_of k) octets refl
+    (first_found (Fails m place max) (fails m place max) (fails_says m place max octets) (checks_of place m) k is)
 
 pub outcome_judged : (m : List ℕ) (place : Place) (max : ℕ) → AreOctets m → Judged m place max (outcome_of m place max)
 unfolding outcome_of

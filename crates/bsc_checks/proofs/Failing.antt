@@ -1,4 +1,5 @@
 -- Each check fails exactly where its test says so, and the first that fails is found.
+-- It serves the clauses of `judge` and `one_outcome`.
 use Rattle.std.proofs.Common.{◌≡◌, ℕ, ◌<◌, ◌≤◌, ◌⊎◌, Bool, true, false, ◌&&◌, ◌||◌, eqb, ltb, leb, List, [], ◌∷◌, ◌++◌, length, Some, None, refl, ap, ◌∙◌}
 use Rattle.std.specs.List.{AllByRecursion}
 use Rattle.bsc_octets.specs.Envelopes.{flags_in}
@@ -51,7 +52,8 @@ fails_says m place max octets C13 =
 
 -- ---- the first that fails
 
-found_at : (P : Check → Type 0) (t : Check → Bool) → ((k : Check) → Reflects (P k) (t k)) → (before : List Check) (k : Check) (after : List Check) → AllByRecursion (λ check. ¬ P check) before → P k → first_failing t (before ++ k ∷ after) ≡ Some k
+found_at : (P : Check → Type 0) (t : Check → Bool) → ((k : Check) → Reflects (P k) (t k)) → (before : List Check) (k : Check) (after : List Check)
+    → AllByRecursion (λ check. ¬ P check) before → P k → first_failing t (before ++ k ∷ after) ≡ Some k
 found_at P t r [] k after earlier fault = let set : t k ≡ true = (r k).back fault in rw (set, first_failing) refl
 found_at P t r (x ∷ before) k after earlier fault = let clear : t x ≡ false = clear_of (P x) (t x) (r x) earlier.0 in rw (clear, first_failing) (found_at P t r before k after earlier.1 fault)
 

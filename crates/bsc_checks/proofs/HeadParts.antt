@@ -1,4 +1,5 @@
 -- What the envelope that octets begin with says of them, and the checks of the head.
+-- It serves clauses of functions of `head`, `judging` and `laws`.
 use Rattle.std.proofs.Common.{◌≡◌, ℕ, ◌<◌, ◌≤◌, ◌^◌, Bool, true, false, cond, ltb, List, [], ◌∷◌, length, get_or, Option, Some, None, Result, Ok, Err, refl, sym, subst, arith}
 use Rattle.byteorder.specs.Endian.{big_number}
 use Rattle.bsc_octets.specs.declared.vmac.Vmac.{Vmac}
@@ -79,7 +80,8 @@ wrong_in m e place head wrong =
 pub wrong_of : (m : List ℕ) (e : Envelope) (place : Place) → IsHead m e → HasWrongAddresses place (function_in m) (origin_in m) (dest_in m) → HasWrongAddresses place e.function e.origin e.dest
 wrong_of m e place head wrong =
     subst (λ (f : ℕ). HasWrongAddresses place f e.origin e.dest) head.function
-    (subst (λ (v : Option Vmac). HasWrongAddresses place (function_in m) v e.dest) (sym head.origin) (subst (λ (v : Option Vmac). HasWrongAddresses place (function_in m) (origin_in m) v) (sym head.dest) wrong))
+    (subst (λ (v : Option Vmac). HasWrongAddresses place (function_in m) v e.dest) (sym head.origin)
+    (subst (λ (v : Option Vmac). HasWrongAddresses place (function_in m) (origin_in m) v) (sym head.dest) wrong))
 
 -- ---- the answers
 
@@ -92,7 +94,8 @@ long_first m place max four long =
     (first_after fails C1 (C2 ∷ C3 ∷ C4 ∷ []) C2 (λ short. absurd (omega arith)) (first_here fails C2 (C3 ∷ C4 ∷ []) long), refl)
 
 -- the envelope is not read of four octets only where it is cut
-pub cut_first : (m : List ℕ) (place : Place) (max : ℕ) (r : Result Envelope EnvelopeFault) (fault : EnvelopeFault) → 4 ≤ length m → length m ≤ max → (r ≡ Err Short → length m < 4) → (r ≡ Err Cut → LacksAddressOctets m) → r ≡ Err fault
+pub cut_first : (m : List ℕ) (place : Place) (max : ℕ) (r : Result Envelope EnvelopeFault) (fault : EnvelopeFault) → 4 ≤ length m → length m ≤ max → (r ≡ Err Short → length m < 4)
+    → (r ≡ Err Cut → LacksAddressOctets m) → r ≡ Err fault
     → HeadAnswers m place max (Err C3)
 cut_first m place max r Short four le short cut is = absurd (let less = short is in omega arith)
 cut_first m place max r Cut four le short cut is =
@@ -102,7 +105,8 @@ cut_first m place max r Cut four le short cut is =
       refl,
     )
 
-pub placed_first : (m : List ℕ) (place : Place) (max : ℕ) (e : Envelope) (r : Result Envelope Check) → 4 ≤ length m → length m ≤ max → SpellsEnvelope e m → HasWholeAddresses e → PlacedAnswers m place r → HeadAnswers m place max r
+pub placed_first : (m : List ℕ) (place : Place) (max : ℕ) (e : Envelope) (r : Result Envelope Check) → 4 ≤ length m → length m ≤ max → SpellsEnvelope e m → HasWholeAddresses e
+    → PlacedAnswers m place r → HeadAnswers m place max r
 placed_first m place max e (Ok head) four le spells whole placed =
     let facts = head_facts m e spells whole in
     (placed.0, ((λ short. absurd (omega arith)), ((λ long. absurd (omega arith)), (lacks_none m e facts, (placed.1, tt)))))

@@ -1,4 +1,5 @@
 -- Whether a phase is Connected can be told.
+-- It serves the clauses of `judge`, `one_outcome` and `passed`.
 use Rattle.std.proofs.Common.{◌≡◌, refl}
 use Rattle.bsc_checks.specs.declared.phase.Phase.{Phase}
 use Rattle.bsc_checks.specs.declared.phase.Phase.TheVariants.{AwaitingRequest, AwaitingAccept, Connected, Disconnecting}

@@ -1,4 +1,5 @@
 -- The message that octets spell is the one that is read of them, and one is spelled where no check fails.
+-- It serves the clauses of `judge` and `one_outcome`.
 use Rattle.std.proofs.Common.{◌≡◌, ℕ, zero, suc, ◌≤◌, inl, inr, Bool, true, false, eqb, ◌||◌, List, length, drop, Option, Some, None, refl, sym, ap, subst, ◌∙◌, arith, length-append, length-drop}
 use Rattle.std.specs.Prelude.{IsTrue}
 use Rattle.std.proofs.lemmas.Bool.{eqb-true, eqb-false}
@@ -91,7 +92,8 @@ list_within b m at items end list le =
     let spelled = list_spelled b m at items end list in
     omega (arith, ap length spelled, length-append (spelling_of items) (drop end m), length-drop at m, length-drop end m)
 
-spelled_by : (m : List ℕ) (d e : Option Found) → AreOctets m → BothSay m d e → Pass (MessageFails m) order → Spells (message_of (envelope_in m) (items_of d) (items_of e) (body_in (function_in m) (rest_of e))) m
+spelled_by : (m : List ℕ) (d e : Option Found) → AreOctets m → BothSay m d e → Pass (MessageFails m) order
+    → Spells (message_of (envelope_in m) (items_of d) (items_of e) (body_in (function_in m) (rest_of e))) m
 spelled_by m None None octets says pass = absurd (pass.1.1.1.1.0 (inl says))
 spelled_by m None (Some g) octets says pass = absurd says
 spelled_by m (Some f) None octets says pass = absurd (pass.1.1.1.1.0 (inr (data_of m says.0 f.items _ says.1 (says.2, says.3))))
@@ -107,7 +109,12 @@ spelled_by m (Some f) (Some g) octets says pass =
     let sound = neither (has_bad f.items) (has_bad g.items) (clear_of (HasBadOption m) (has_bad f.items || has_bad g.items) (bad m (Some f) (Some g) says) options.1.0) in
     let middle = list_within (announces_dest_options (flags_in m)) m (options_at m) f.items at lists.first place.1 in
     let here : IsPayload m (drop end m) = is_payload m at end f.items g.items lists in
-    let passes : Passes (function_in m) (drop end m) = record { there = (λ x. payload.0 (drop end m, here, x)); long = (λ x. payload.1.0 (drop end m, here, x)); short = (λ x. payload.1.1.0 (drop end m, here, x)); range = (λ x. payload.1.1.1.0 (drop end m, here, x)) } in
+    let passes : Passes (function_in m) (drop end m) = record {
+      there = (λ x. payload.0 (drop end m, here, x));
+      long = (λ x. payload.1.0 (drop end m, here, x));
+      short = (λ x. payload.1.1.0 (drop end m, here, x));
+      range = (λ x. payload.1.1.1.0 (drop end m, here, x));
+    } in
     let body = body_is (function_in m) (drop end m) known (behind_octets end m octets) passes in
     let spells = spells_by m (envelope_in m) at end f.items g.items (body_in (function_in m) (drop end m)) (head_is m octets place.0 place.1 few known)
     (record {

@@ -1,4 +1,5 @@
 -- Options without a shape, and options that are not understood, as tests of what is read.
+-- It serves the clauses of `judge` and `one_outcome`.
 use Rattle.std.proofs.Common.{◌≡◌, ℕ, inl, inr, Bool, true, false, not, ◌||◌, eqb, List, [], ◌∷◌, ◌++◌, Option, Some, None, is_some, refl, sym, ap, subst, ◌∙◌}
 use Rattle.std.specs.List.{AllByRecursion}
 use Rattle.std.proofs.lemmas.Bool.{eqb-true, eqb-false}
@@ -107,7 +108,8 @@ bad m (Some f) (Some g) says =
     let here = (announces_data_options (flags_in m) ≡ true) × HasItemAtFault m says.0 in
     either (OfDestOptions m (HasItemAtFault m)) (OfDataOptions m (HasItemAtFault m)) (has_bad f.items) (has_bad g.items)
     (list_bad (announces_dest_options (flags_in m)) m (options_at m) f.items says.0 says.2.first)
-    (alike here (OfDataOptions m (HasItemAtFault m)) (has_bad g.items) (λ h. data_of m says.0 f.items (HasItemAtFault m) says.2.first h) (λ h. data_at m says.0 f.items (HasItemAtFault m) says.2.first h)
+    (alike here (OfDataOptions m (HasItemAtFault m)) (has_bad g.items) (λ h. data_of m says.0 f.items (HasItemAtFault m) says.2.first h)
+    (λ h. data_at m says.0 f.items (HasItemAtFault m) says.2.first h)
     (list_bad (announces_data_options (flags_in m)) m says.0 g.items says.1 says.2.second))
 
 -- ---- an option that is not understood

@@ -1,4 +1,5 @@
 -- The verdict that a message has is the one that is computed.
+-- It serves the clauses of `judge` and `one_outcome`.
 use Rattle.std.proofs.Common.{◌≡◌, ℕ, Bool, true, false, not, ◌&&◌, List, Option, Some, None, refl, sym, ap, ◌∙◌}
 use Rattle.arrayvec.specs.ArrayVec.{ArrayVec}
 use Rattle.bsc_octets.specs.Forwarding.{function_in}
@@ -37,7 +38,8 @@ answers m =
     also (IsUnicast (dest_in m)) (IsResponse (function_in m) → ⊥) (is_unicast (dest_in m)) (not (is_response (function_in m))) (unicast (dest_in m))
     (never (IsResponse (function_in m)) (is_response (function_in m)) (response (function_in m)))
 
-silent_by : (m : List ℕ) (place : Place) (k : Check) (code : ℕ) (b : Bool) → (is_unicast (dest_in m) && not (is_response (function_in m))) ≡ b → code_of k ≡ Some code → (IsAnswered m k code → ⊥) → Silent k ≡ answered b m place k code
+silent_by : (m : List ℕ) (place : Place) (k : Check) (code : ℕ) (b : Bool) → (is_unicast (dest_in m) && not (is_response (function_in m))) ≡ b → code_of k ≡ Some code
+    → (IsAnswered m k code → ⊥) → Silent k ≡ answered b m place k code
 silent_by m place k code true is coded none =
     let both = (answers m).holds is in
     absurd (none (record { code_is = coded; unicast = both.0; request = both.1 }))
@@ -53,7 +55,8 @@ vector_is v o same = ap (λ (l : List ℕ). let w : ArrayVec ℕ = record { item
 nak_is : (m : List ℕ) (place : Place) (k : Check) (v : ArrayVec ℕ) → AreOctets m → IsNak m place k v.items → Nak k v ≡ refused m place k (code_of k)
 nak_is m place k v octets nak =
     let set : (is_unicast (dest_in m) && not (is_response (function_in m))) ≡ true = (answers m).back (nak.answered.unicast, nak.answered.request) in
-    let spelled : v.items ≡ spelling (nak_to m place (marker_for m k) nak.code) = nak.octets.octets ∙ ap (λ (n : ℕ). spelling (nak_to m place n nak.code)) (marker_is m k nak.marker octets nak.marker_is) in
+    let spelled : v.items ≡ spelling (nak_to m place (marker_for m k) nak.code) = nak.octets.octets
+    ∙ ap (λ (n : ℕ). spelling (nak_to m place n nak.code)) (marker_is m k nak.marker octets nak.marker_is) in
     ap (λ (w : ArrayVec ℕ). Nak k w) (vector_is v (spelling (nak_to m place (marker_for m k) nak.code)) spelled)
     ∙ ap (λ (b : Bool). answered b m place k nak.code) (sym set)
     ∙ ap (refused m place k) (sym nak.answered.code_is)

@@ -1,4 +1,5 @@
 -- The octets of a NAK are no Encapsulated-NPDU.
+-- It serves bsc_accept and bsc_initiate.
 use Rattle.std.proofs.Common.{◌≡◌, ℕ, Bool, true, false, not, ◌&&◌, List, Option, Some, None, refl}
 use Rattle.std.specs.Prelude.{⊤}
 use Rattle.bsc_octets.specs.Forwarding.{function_in}

@@ -1,10 +1,13 @@
 -- The checks of a payload as tests.
+-- It serves the clauses of `judge` and `one_outcome`.
 use Rattle.std.proofs.Common.{◌≡◌, ℕ, ◌<◌, ◌⊎◌, true, false, eqb, ltb, not, ◌||◌, List, [], ◌∷◌, length, drop, slice_index, refl}
 use Rattle.std.specs.Str.{IsUtf8, is_utf8}
 use Rattle.bsc_octets.specs.Addresses.{broadcast, zero_vmac, same_vmac}
 use Rattle.bsc_octets.specs.Envelopes.{vmac_at}
-use Rattle.bsc_frame.specs.PayloadChecks.{result_code, expects_payload, fixed_part, takes_rest, IsMissing, IsBelowFixedPart, IsBeyondFixedPart, IsOutOfRange, HasUnknownResult, HasBadDetails, HasBadUris, HasUnknownStatus, HasUnknownAccepts, HasNoNodesVmac}
-use Rattle.bsc_checks.specs.Payloads.{is_nothing, is_missing, is_below_fixed_part, is_beyond_fixed_part, is_out_of_range, has_unknown_result, has_bad_details, has_bad_uris, has_unknown_status, has_unknown_accepts, has_no_nodes_vmac}
+use Rattle.bsc_frame.specs.PayloadChecks.{result_code, expects_payload, fixed_part, takes_rest, IsMissing, IsBelowFixedPart, IsBeyondFixedPart, IsOutOfRange, HasUnknownResult}
+use Rattle.bsc_frame.specs.PayloadChecks.{HasBadDetails, HasBadUris, HasUnknownStatus, HasUnknownAccepts, HasNoNodesVmac}
+use Rattle.bsc_checks.specs.Payloads.{is_nothing, is_missing, is_below_fixed_part, is_beyond_fixed_part, is_out_of_range, has_unknown_result, has_bad_details, has_bad_uris}
+use Rattle.bsc_checks.specs.Payloads.{has_unknown_status, has_unknown_accepts, has_no_nodes_vmac}
 use Rattle.bsc_checks.proofs.Reflecting.{Reflects, also, three, either, never, equal, less, set, clear, one_address, text}
 
 nothing : (p : List ℕ) → Reflects (p ≡ []) (is_nothing p)

@@ -1,4 +1,5 @@
 -- What a place says of the addresses and of the function, as tests.
+-- It serves the clauses of `judge` and `one_outcome`.
 use Rattle.std.proofs.Common.{◌≡◌, ◌≢◌, ℕ, ◌≤◌, ◌⊎◌, Bool, true, false, not, ◌&&◌, ◌||◌, eqb, leb, Option, Some, None, is_none, refl, sym, ap, ◌∙◌}
 use Rattle.bsc_octets.specs.declared.vmac.Vmac.{Vmac}
 use Rattle.bsc_octets.specs.Addresses.{broadcast, same_vmac}
@@ -9,7 +10,8 @@ use Rattle.bsc_checks.specs.declared.place.Place.{Place}
 use Rattle.bsc_checks.specs.declared.place.Place.TheVariants.{HubPort, NodeHub, NodeDirect}
 use Rattle.bsc_checks.specs.Places.{phase_of, IsUnicast, IsOfConnection, LacksSender, IsForAnother, IsFromAnother, IsNotFor, HasWrongAddresses, IsInPlaceConnected, IsInPlaceIn, IsInPlace}
 use Rattle.bsc_checks.specs.Naks.{IsResponse}
-use Rattle.bsc_checks.specs.PlaceTests.{is_unicast, lacks_sender, is_for_another, is_peer, is_from_another, is_not_for, has_wrong_addresses, is_of_life, is_in_place_connected, is_in_place_in, is_connected, is_in_place}
+use Rattle.bsc_checks.specs.PlaceTests.{is_unicast, lacks_sender, is_for_another, is_peer, is_from_another, is_not_for, has_wrong_addresses, is_of_life, is_in_place_connected}
+use Rattle.bsc_checks.specs.PlaceTests.{is_in_place_in, is_connected, is_in_place}
 use Rattle.bsc_checks.proofs.Reflecting.{Reflects, also, three, either, never, alike, equal, at_most, one_address, absent, present}
 
 -- ---- the addresses
@@ -23,14 +25,16 @@ other v w = never (v ≡ w) (same_vmac v w) (one_address v w)
 
 pub unicast : (dest : Option Vmac) → Reflects (IsUnicast dest) (is_unicast dest)
 unicast None = record { holds = (λ e same. absurd cc); back = (λ h. refl) }
-unicast (Some v) = alike (v ≢ broadcast) (IsUnicast (Some v)) (not (same_vmac v broadcast)) (λ differ same. differ (some_is v broadcast same)) (λ h same. h (ap (λ (w : Vmac). Some w) same)) (other v broadcast)
+unicast (Some v) = alike (v ≢ broadcast) (IsUnicast (Some v)) (not (same_vmac v broadcast)) (λ differ same. differ (some_is v broadcast same)) (λ h same. h (ap (λ (w : Vmac). Some w) same))
+    (other v broadcast)
 
 of_connection : (f : ℕ) → Reflects (IsOfConnection f) (leb 6 f && leb f 11)
 of_connection f = also (6 ≤ f) (f ≤ 11) (leb 6 f) (leb f 11) (at_most 6 f) (at_most f 11)
 
 lacking : (f : ℕ) (origin : Option Vmac) → Reflects (LacksSender f origin) (lacks_sender f origin)
 lacking f origin =
-    three (origin ≡ None) (f ≢ 0) (IsOfConnection f → ⊥) (is_none origin) (not (eqb f 0)) (not (leb 6 f && leb f 11)) (absent origin) (never (f ≡ 0) (eqb f 0) (equal f 0)) (never (IsOfConnection f) (leb 6 f && leb f 11) (of_connection f))
+    three (origin ≡ None) (f ≢ 0) (IsOfConnection f → ⊥) (is_none origin) (not (eqb f 0)) (not (leb 6 f && leb f 11)) (absent origin) (never (f ≡ 0) (eqb f 0) (equal f 0))
+    (never (IsOfConnection f) (leb 6 f && leb f 11) (of_connection f))
 
 for_another : (own : Vmac) (dest : Option Vmac) → Reflects (IsForAnother own dest) (is_for_another own dest)
 for_another own None = record { holds = (λ e. absurd cc); back = (λ h. let none : ◌≡◌ {A = Option Vmac} None (Some h.0) = h.1 in absurd cc) }
@@ -63,7 +67,8 @@ not_for own (Some v) =
 pub wrong_addresses : (place : Place) (f : ℕ) (origin dest : Option Vmac) → Reflects (HasWrongAddresses place f origin dest) (has_wrong_addresses place f origin dest)
 wrong_addresses (HubPort phase) f origin dest = present origin
 wrong_addresses (NodeHub own phase) f origin dest = either (LacksSender f origin) (IsForAnother own dest) (lacks_sender f origin) (is_for_another own dest) (lacking f origin) (for_another own dest)
-wrong_addresses (NodeDirect own peer phase) f origin dest = either (IsFromAnother peer origin) (IsNotFor own dest) (is_from_another peer origin) (is_not_for own dest) (from_another peer origin) (not_for own dest)
+wrong_addresses (NodeDirect own peer phase) f origin dest = either (IsFromAnother peer origin) (IsNotFor own dest) (is_from_another peer origin) (is_not_for own dest)
+    (from_another peer origin) (not_for own dest)
 
 -- ---- the function
 

@@ -1,4 +1,5 @@
 -- Addresses that are compared octet by octet.
+-- It serves the clauses of `judge` and `one_outcome`.
 use Rattle.std.proofs.Common.{◌≡◌, ℕ, Bool, true, List, [], ◌∷◌, refl, sym, ap, ◌∙◌, eqb}
 use Rattle.std.specs.Cmp.Lexicographic.{pointwise, same_text}
 use Rattle.std.proofs.lemmas.Bool.{eq-eqb}

@@ -1,4 +1,5 @@
 -- The two lists of options of a message, as they are read and as they are said to stand there.
+-- It serves the clauses of `judge` and `one_outcome`.
 use Rattle.std.proofs.Common.{◌≡◌, ℕ, ◌+◌, inl, inr, Bool, true, false, List, ◌++◌, length, drop, Option, Some, None, is_none, refl, sym, ap, subst, ◌∙◌, arith}
 use Rattle.std.specs.Prelude.{IsTrue}
 use Rattle.std.proofs.lemmas.List.{drop_at, drop-drop}
@@ -50,7 +51,8 @@ BothSay m None (Some g) = ⊥
 BothSay m (Some f) None = (at : ℕ) × IsList (announces_dest_options (flags_in m)) m (options_at m) f.items at × IsTrue (announces_data_options (flags_in m)) × IsCut m at
 BothSay m (Some f) (Some g) = (at : ℕ) × (end : ℕ) × AreLists m at end f.items g.items × (g.rest ≡ drop end m)
 
-second : (m : List ℕ) (f : Found) (at : ℕ) (e : Option Found) → IsList (announces_dest_options (flags_in m)) m (options_at m) f.items at → ListSays (announces_data_options (flags_in m)) m at e → BothSay m (Some f) e
+second : (m : List ℕ) (f : Found) (at : ℕ) (e : Option Found) → IsList (announces_dest_options (flags_in m)) m (options_at m) f.items at
+    → ListSays (announces_data_options (flags_in m)) m at e → BothSay m (Some f) e
 second m f at None list says = (at, list, says.0, says.1)
 second m f at (Some g) list says = (at, says.0, record { first = list; second = says.1 }, says.2)
 
@@ -65,10 +67,12 @@ both_say m octets = both m (dest_options_in m) octets (dest_says m octets)
 
 -- ---- the place of the data options
 
-pub data_at : (m : List ℕ) (at : ℕ) (xs : List OptionItem) (P : ℕ → Type 0) → IsList (announces_dest_options (flags_in m)) m (options_at m) xs at → OfDataOptions m P → IsTrue (announces_data_options (flags_in m)) × P at
+pub data_at : (m : List ℕ) (at : ℕ) (xs : List OptionItem) (P : ℕ → Type 0) → IsList (announces_dest_options (flags_in m)) m (options_at m) xs at → OfDataOptions m P
+    → IsTrue (announces_data_options (flags_in m)) × P at
 data_at m at xs P list h = (h.0, subst P (list_one (announces_dest_options (flags_in m)) m (options_at m) h.1.1.0 xs h.1.0 at h.1.1.1 list).1 h.1.2)
 
-pub data_of : (m : List ℕ) (at : ℕ) (xs : List OptionItem) (P : ℕ → Type 0) → IsList (announces_dest_options (flags_in m)) m (options_at m) xs at → IsTrue (announces_data_options (flags_in m)) × P at → OfDataOptions m P
+pub data_of : (m : List ℕ) (at : ℕ) (xs : List OptionItem) (P : ℕ → Type 0) → IsList (announces_dest_options (flags_in m)) m (options_at m) xs at
+    → IsTrue (announces_data_options (flags_in m)) × P at → OfDataOptions m P
 data_of m at xs P list h = (h.0, (at, (xs, list), h.1))
 
 -- what is said of the data options is not said where the destination options are cut
@@ -93,14 +97,20 @@ lacks m (Some f) (Some g) says =
 -- ---- the payload
 
 -- there is none where octets of a list are missing
-no_payload : (m : List ℕ) (f : Found) (at : ℕ) (p : List ℕ) → IsList (announces_dest_options (flags_in m)) m (options_at m) f.items at → IsTrue (announces_data_options (flags_in m)) → IsCut m at → IsPayload m p → ⊥
+no_payload : (m : List ℕ) (f : Found) (at : ℕ) (p : List ℕ) → IsList (announces_dest_options (flags_in m)) m (options_at m) f.items at → IsTrue (announces_data_options (flags_in m))
+    → IsCut m at → IsPayload m p → ⊥
 no_payload m f at p list set cut is =
     let same : is.at ≡ at = (list_one (announces_dest_options (flags_in m)) m (options_at m) is.before.0 f.items is.at at is.before.1 list).1 in
     not_cut (announces_data_options (flags_in m)) m at is.items is.end (subst (λ (place : ℕ). IsList (announces_data_options (flags_in m)) m place is.items is.end) same is.list) set cut
 
-pub payload_says : (P : ℕ → List ℕ → Type 0) (t : ℕ → List ℕ → Bool) → ((f : ℕ) (p : List ℕ) → Reflects (P f p) (t f p)) → (m : List ℕ) (d e : Option Found) → BothSay m d e → Reflects (OfPayload m P) (of_payload t (function_in m) e)
+pub payload_says : (P : ℕ → List ℕ → Type 0) (t : ℕ → List ℕ → Bool) → ((f : ℕ) (p : List ℕ) → Reflects (P f p) (t f p)) → (m : List ℕ) (d e : Option Found) → BothSay m d e
+    → Reflects (OfPayload m P) (of_payload t (function_in m) e)
 payload_says P t r m None None says =
-    record { holds = (λ e. absurd cc); back = (λ h. let is : IsPayload m h.0 = h.1 in absurd (not_cut (announces_dest_options (flags_in m)) m (options_at m) is.before.0 is.at is.before.1 says.0 says.1)) }
+    record {
+      holds = (λ e. absurd cc);
+      back = (λ h. let is : IsPayload m h.0 = h.1 in
+          absurd (not_cut (announces_dest_options (flags_in m)) m (options_at m) is.before.0 is.at is.before.1 says.0 says.1));
+    }
 payload_says P t r m None (Some g) says = absurd says
 payload_says P t r m (Some f) None says = record { holds = (λ e. absurd cc); back = (λ h. absurd (no_payload m f says.0 h.0 says.1 says.2 says.3 h.1)) }
 payload_says P t r m (Some f) (Some g) says =

@@ -1,4 +1,5 @@
 -- A message has one verdict.
+-- It serves the clauses of `judge` and `one_verdict`.
 use Rattle.std.proofs.Common.{◌≡◌, ℕ, ◌⊎◌, inl, inr, List, ◌∷◌, ◌++◌, Option, Some, Result, Ok, Err, refl, sym, ap, subst, ◌∙◌}
 use Rattle.std.specs.Prelude.{◌↔◌, IsErr}
 use Rattle.arrayvec.specs.ArrayVec.{ArrayVec}
@@ -30,7 +31,8 @@ use Rattle.bsc_checks.proofs.Behind.{refused_is}
 one_refused : (m : List ℕ) (a b : ℕ) → IsFirstNotUnderstood m a → IsFirstNotUnderstood m b → a ≡ b
 one_refused m a b first other =
     let same : first.before ++ first.item ∷ first.after ≡ other.before ++ other.item ∷ other.after =
-    (list_one (announces_dest_options (flags_in m)) m (options_at m) (first.before ++ first.item ∷ first.after) (other.before ++ other.item ∷ other.after) first.end other.end first.list other.list).0 in
+    (list_one (announces_dest_options (flags_in m)) m (options_at m) (first.before ++ first.item ∷ first.after)
+    (other.before ++ other.item ∷ other.after) first.end other.end first.list other.list).0 in
     let mine = refused_is first.before first.item first.after first.earlier first.fault in
     let its = refused_is other.before other.item other.after other.earlier other.fault in
     let markers : ◌≡◌ {A = Option ℕ} (Some (marker_of (has_items first.after) first.item)) (Some (marker_of (has_items other.after) other.item)) = sym mine ∙ ap marker_refused same ∙ its in
@@ -98,7 +100,8 @@ found_then : (m : List ℕ) (place : Place) (max : ℕ) (r : Result Verdict NoMe
 found_then m place max r answer v is = subst (VerdictAnswers m place max) is answer
 
 -- a verdict that is no pass is answered, whatever the memory
-refused_if : (m : List ℕ) (place : Place) (max : ℕ) (r : Result Verdict NoMemory) → VerdictAnswers m place max r → (v : Verdict) → ((msg : Message) → Pass msg ≡ v → ⊥) → Judged m place max v → r ≡ Ok v
+refused_if : (m : List ℕ) (place : Place) (max : ℕ) (r : Result Verdict NoMemory) → VerdictAnswers m place max r → (v : Verdict) → ((msg : Message) → Pass msg ≡ v → ⊥) → Judged m place max v
+    → r ≡ Ok v
 refused_if m place max (Ok w) answer v other judged = ap (λ (x : Verdict). Ok x) (one_verdict m place max w v answer judged)
 refused_if m place max (Err e) answer v other judged = absurd (other answer.0 (one_verdict m place max (Pass answer.0) v answer.1 judged))
 

@@ -1,4 +1,5 @@
 -- What a verdict says of the place and of the message.
+-- It serves the clauses of `judge`, `one_outcome` and `passed`.
 use Rattle.std.proofs.Common.{◌≡◌, ℕ, Bool, true, false, List, ◌++◌, Option, Some, None, Result, Err, sym, subst, ◌∙◌}
 use Rattle.std.specs.List.{AllByRecursion}
 use Rattle.bsc_octets.specs.declared.envelope.Envelope.{Envelope}
@@ -13,7 +14,7 @@ use Rattle.bsc_frame.specs.Checks.{IsFirst as IsFrameFirst}
 use Rattle.bsc_frame.specs.declared.fault.FrameFault.TheVariants as faults
 use Rattle.bsc_frame.proofs.First.{pass_append, first_later, first_earlier, first_or_none}
 use Rattle.bsc_checks.specs.declared.place.Place.{Place}
-use Rattle.bsc_checks.specs.declared.refusal.Refusal.{Refusal}
+use Rattle.bsc_checks.specs.declared.failed_check.FailedCheck.{FailedCheck}
 use Rattle.bsc_checks.specs.declared.verdict.Verdict.TheVariants.{Pass, Carry, Silent}
 use Rattle.bsc_checks.specs.declared.phase.Phase.TheVariants.{Connected}
 use Rattle.bsc_checks.specs.Places.{origin_in, is_to_carry, phase_of, IsInPlace}
@@ -25,10 +26,13 @@ use Rattle.bsc_checks.specs.Walk.{IsHead, NoneOf, ChecksAnswer, HeadAnswers, fro
 -- ---- from the stages to the whole
 
 pub silent_head : (m : List ℕ) (place : Place) (max : ℕ) (k : Check) → HeadAnswers m place max (Err k) → Judged m place max (Silent k)
-silent_head m place max k answer =
-    (first_earlier (Fails m place max) silent_checks (from_flags (is_to_carry place m)) k answer.0, (λ code answered. let both : ◌≡◌ {A = Option ℕ} None (Some code) = sym answer.1 ∙ answered.code_is in absurd cc))
+silent_head m place max k answer = (
+  first_earlier (Fails m place max) silent_checks (from_flags (is_to_carry place m)) k answer.0,
+  (λ code answered. let both : ◌≡◌ {A = Option ℕ} None (Some code) = sym answer.1 ∙ answered.code_is in absurd cc),
+)
 
-pub first_of_all : (m : List ℕ) (place : Place) (max : ℕ) (r : Refusal) → NoneOf silent_checks m place max → ChecksAnswer (from_flags (is_to_carry place m)) m place max (Some r) → IsFirst r.check m place max
+pub first_of_all : (m : List ℕ) (place : Place) (max : ℕ) (r : FailedCheck) → NoneOf silent_checks m place max → ChecksAnswer (from_flags (is_to_carry place m)) m place max (Some r)
+    → IsFirst r.check m place max
 first_of_all m place max r pass answer = first_later (Fails m place max) silent_checks (from_flags (is_to_carry place m)) r.check pass answer.0
 
 pub none_of_all : (m : List ℕ) (place : Place) (max : ℕ) → NoneOf silent_checks m place max → ChecksAnswer (from_flags (is_to_carry place m)) m place max None → NoneFails m place max
@@ -52,7 +56,8 @@ pub passed : (m : List ℕ) (place : Place) (max : ℕ) (b : Bool) (msg : Messag
 passed m place max b msg is clear none spells = (none, sym is ∙ clear, spells)
 
 -- where octets spell a message, reading them wants memory or finds it
-pub memory_of : (m : List ℕ) (r : Result Message FrameFault) (fault : FrameFault) → (r ≡ Err faults.NoMemory → (msg : Message) × Spells msg m) → ((k : Check) → r ≡ Err (faults.Fails k) → IsFrameFirst k m) → r ≡ Err fault
+pub memory_of : (m : List ℕ) (r : Result Message FrameFault) (fault : FrameFault) → (r ≡ Err faults.NoMemory → (msg : Message) × Spells msg m)
+    → ((k : Check) → r ≡ Err (faults.Fails k) → IsFrameFirst k m) → r ≡ Err fault
     → AllByRecursion (λ check. ¬ MessageFails m check) order → (msg : Message) × Spells msg m
 memory_of m r (faults.Fails k) memory fails is pass = absurd (first_or_none (MessageFails m) order k pass (fails k is))
 memory_of m r faults.NoMemory memory fails is pass = memory is

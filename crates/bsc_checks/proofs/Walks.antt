@@ -1,5 +1,7 @@
 -- Reading options from the front finds what octets spell, or that octets are missing.
-use Rattle.std.proofs.Common.{◌≡◌, ℕ, zero, suc, ◌+◌, ◌/◌, ◌%◌, ◌<◌, ◌≤◌, Bool, true, false, ◌||◌, eqb, ltb, cond, List, [], ◌∷◌, ◌++◌, length, get_or, take, drop, Option, Some, None, is_some, refl, sym, ap, ◌∙◌, append_assoc, arith, length-append}
+-- It serves the clauses of `judge` and `one_outcome`.
+use Rattle.std.proofs.Common.{◌≡◌, ℕ, zero, suc, ◌+◌, ◌/◌, ◌%◌, ◌<◌, ◌≤◌, Bool, true, false, ◌||◌, eqb, ltb, cond, List, [], ◌∷◌, ◌++◌, length, get_or, take, drop, Option, Some}
+use Rattle.std.proofs.Common.{None, is_some, refl, sym, ap, ◌∙◌, append_assoc, arith, length-append}
 use Rattle.std.proofs.lemmas.Bool.{ltb-true, ltb-false}
 use Rattle.std.proofs.lemmas.List.{drop_at, get_or-drop, length-take-le, take-append-drop, append-nil}
 use Rattle.byteorder.specs.Endian.{big_bytes, big_number}
@@ -107,7 +109,8 @@ shorter o rest follows item e = omega (arith, ap length e, length-append (item_o
 
 octets_behind : (o front rest : List ℕ) → AreOctets o → o ≡ front ++ rest → AreOctets rest
 octets_behind o front rest octets e i =
-    let moved : get_or rest i 0 ≡ get_or o (length front + i) 0 = ap (λ (l : List ℕ). get_or l i 0) (sym (drop_at front rest (length front) refl) ∙ ap (drop (length front)) (sym e)) ∙ get_or-drop (length front) o i 0 in
+    let moved : get_or rest i 0 ≡ get_or o (length front + i) 0 = ap (λ (l : List ℕ). get_or l i 0) (sym (drop_at front rest (length front) refl) ∙ ap (drop (length front)) (sym e))
+    ∙ get_or-drop (length front) o i 0 in
     omega (arith, moved, octets (length front + i))
 
 continued_says : (o : List ℕ) (follows : Bool) (item : OptionItem) (rest : List ℕ) (read : List ℕ → Option Found) → (AreOctets rest → length rest < length o → ItemsSay rest (read rest)) → AreOctets o
@@ -118,7 +121,8 @@ continued_says o false item rest read says octets fits e =
     let alone : item_octets false item ++ [] ≡ item_octets false item = append-nil (item_octets false item) in
     (record { some = omega arith; fit = (fits, tt) }, e ∙ ap (λ (l : List ℕ). l ++ rest) (sym alone))
 
-after_says : (o : List ℕ) (first : Option First) (read : List ℕ → Option Found) → ((rest : List ℕ) → AreOctets rest → length rest < length o → ItemsSay rest (read rest)) → AreOctets o → FirstSays o first → ItemsSay o (after_first first read)
+after_says : (o : List ℕ) (first : Option First) (read : List ℕ → Option Found) → ((rest : List ℕ) → AreOctets rest → length rest < length o → ItemsSay rest (read rest)) → AreOctets o
+    → FirstSays o first → ItemsSay o (after_first first read)
 after_says o None read says octets cut = walked_cut o o (walked_none o) cut
 after_says o (Some first) read says octets found = continued_says o first.follows first.item first.rest read (says first.rest) octets found.0 found.1
 

@@ -1,4 +1,5 @@
 -- Messages written out in octets, with what the definitions make of them.
+-- No clause needs it: worked examples.
 use Rattle.std.proofs.Common.{◌≡◌, ℕ, true, false, [], ◌∷◌, Option, Some, None, refl, arith}
 use Rattle.bsc_octets.specs.declared.vmac.Vmac.{Vmac}
 use Rattle.bsc_options.specs.Spelling.{marker_of}

@@ -15,7 +15,7 @@ use Rattle.bsc_frame.specs.Layout.{announces_dest_options, announces_data_option
 use Rattle.bsc_frame.specs.Checks.{IsFirstOf}
 use Rattle.bsc_frame.specs.declared.lists.Ends.{Ends}
 use Rattle.bsc_checks.specs.declared.place.Place.{Place}
-use Rattle.bsc_checks.specs.declared.refusal.Refusal.{Refusal}
+use Rattle.bsc_checks.specs.declared.failed_check.FailedCheck.{FailedCheck}
 use Rattle.bsc_checks.specs.declared.verdict.Verdict.{Verdict}
 use Rattle.bsc_checks.specs.declared.verdict.Verdict.TheVariants.{Pass}
 use Rattle.bsc_checks.specs.Places.{origin_in, dest_in, HasWrongAddresses}
@@ -59,7 +59,7 @@ HeadAnswers m place max (Err check) = IsFirstOf silent_checks (Fails m place max
 -- ---- the checks behind it
 
 -- What making some checks in their order may answer: none fails, or which is the first, with its marker.
-abbrev pub ChecksAnswer : List Check → List ℕ → Place → ℕ → Option Refusal → Type 0
+abbrev pub ChecksAnswer : List Check → List ℕ → Place → ℕ → Option FailedCheck → Type 0
 ChecksAnswer checks m place max None = NoneOf checks m place max
 ChecksAnswer checks m place max (Some refusal) = IsFirstOf checks (Fails m place max) refusal.check × IsMarker m refusal.check refusal.marker
 
@@ -90,7 +90,7 @@ marker_refused [] = None
 marker_refused (item ∷ rest) = if item.must && not (item.kind == 1) then Some (marker_of (has_items rest) item) else marker_refused rest
 
 -- What looking at the lists may answer.
-abbrev pub OptionsAnswer : List ℕ → Place → ℕ → Result Ends Refusal → Type 0
+abbrev pub OptionsAnswer : List ℕ → Place → ℕ → Result Ends FailedCheck → Type 0
 OptionsAnswer m place max (Ok ends) = ((xs : List OptionItem) × (ys : List OptionItem) × HasEnds m ends xs ys) × ChecksAnswer option_checks m place max None
 OptionsAnswer m place max (Err refusal) = ChecksAnswer option_checks m place max (Some refusal)
 

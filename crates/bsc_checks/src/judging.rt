@@ -17,12 +17,12 @@ ghost use Rattle.bsc_checks.specs.Outcomes.{outcome_of};
 ghost use Rattle.bsc_checks.specs.Walk.{IsHead, ChecksAnswer, between, from_flags};
 
 use crate::addresses::is_unicast;
+use crate::failed_check::FailedCheck;
 use crate::functions::is_out_of_place;
 use crate::head::read_head;
 use crate::nak::{nak, return_address};
 use crate::option_checks::read_options;
 use crate::place::Place;
-use crate::refusal::Refusal;
 use crate::verdict::Verdict;
 use bsc_frame::{Check, Message, payload_fault, read};
 use bsc_octets::{Envelope, NoMemory, control, function, results};
@@ -53,7 +53,7 @@ fn is_to_carry(place: &Place, head: &Envelope) -> bool
 }
 
 /// The first of C6 to C12 that fails, of a message that is not to be carried on.
-fn later_refusal(m: &[u8], head: &Envelope, to_carry: bool) -> Option<Refusal>
+fn later_refusal(m: &[u8], head: &Envelope, to_carry: bool) -> Option<FailedCheck>
     requires { IsHead m.now head.now }
     ensures { (place : Place) (max : ℕ) → ChecksAnswer (between to_carry) m.now place max result }
 {
@@ -61,41 +61,41 @@ fn later_refusal(m: &[u8], head: &Envelope, to_carry: bool) -> Option<Refusal>
         return None;
     }
     if head.function > function::PROPRIETARY_MESSAGE {
-        return Some(Refusal::of(Check::C6));
+        return Some(FailedCheck::of(Check::C6));
     }
     let ends = match read_options(m, head) {
         Ok(ends) => ends,
         Err(refusal) => return Some(refusal),
     };
     if let Some(check) = payload_fault(head.function, &m[ends.data..]) {
-        return Some(Refusal::of(check));
+        return Some(FailedCheck::of(check));
     }
     if head.function == function::PROPRIETARY_MESSAGE {
-        return Some(Refusal::of(Check::C12));
+        return Some(FailedCheck::of(Check::C12));
     }
     None
 }
 
 /// The first of C5 to C13 that fails.
-fn refusal(m: &[u8], head: &Envelope, place: &Place) -> Option<Refusal>
+fn refusal(m: &[u8], head: &Envelope, place: &Place) -> Option<FailedCheck>
     requires { IsHead m.now head.now }
     ensures { (max : ℕ) → ChecksAnswer (from_flags (is_to_carry place.now m.now)) m.now place.now max result }
 {
     if head.flags > control::FLAGS {
-        return Some(Refusal::of(Check::C5));
+        return Some(FailedCheck::of(Check::C5));
     }
     let to_carry = is_to_carry(place, head);
     if let Some(refusal) = later_refusal(m, head, to_carry) {
         return Some(refusal);
     }
     if is_out_of_place(to_carry, place, head.function, head.origin) {
-        return Some(Refusal::of(Check::C13));
+        return Some(FailedCheck::of(Check::C13));
     }
     None
 }
 
 /// The verdict where a check fails: a NAK, where it has a code, the message is a unicast and no response.
-fn refused(head: &Envelope, place: &Place, refusal: Refusal) -> Verdict
+fn refused(head: &Envelope, place: &Place, refusal: FailedCheck) -> Verdict
     ensures { (m : List ℕ) (max : ℕ) → IsHead m head.now → IsFirst refusal.check m place.now max
         → IsMarker m refusal.check refusal.marker → Judged m place.now max result }
 {

@@ -10,6 +10,7 @@
 #![tactic(auto)]
 
 mod addresses;
+mod failed_check;
 mod functions;
 mod head;
 mod judging;
@@ -19,7 +20,6 @@ mod option_checks;
 mod phase;
 mod place;
 mod putting;
-mod refusal;
 mod understood;
 mod verdict;
 

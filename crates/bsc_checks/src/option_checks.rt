@@ -7,7 +7,7 @@ ghost use Rattle.bsc_checks.specs.Table.{IsFirstNotUnderstood, HasOptionNotUnder
 ghost use Rattle.bsc_checks.specs.Walk.{IsHead, HasEnds, OptionsAnswer};
 ghost use Rattle.bsc_checks.specs.declared.place.Place.{Place};
 
-use crate::refusal::Refusal;
+use crate::failed_check::FailedCheck;
 use crate::understood::first_not_understood;
 use bsc_frame::{Check, Ends, read_ends};
 use bsc_octets::Envelope;
@@ -23,7 +23,7 @@ fn not_understood(m: &[u8], head: &Envelope, ends: Ends) -> Option<u8>
 }
 
 /// Where the lists end, where none of C7 to C9 fails.
-pub(crate) fn read_options(m: &[u8], head: &Envelope) -> Result<Ends, Refusal>
+pub(crate) fn read_options(m: &[u8], head: &Envelope) -> Result<Ends, FailedCheck>
     requires head { IsHead m.now head.now }
     requires function { head.now.function ≤ 0x0C }
     ensures answer { (place : Place) (max : ℕ) → OptionsAnswer m.now place max result }
@@ -31,10 +31,10 @@ pub(crate) fn read_options(m: &[u8], head: &Envelope) -> Result<Ends, Refusal>
 {
     let ends = match read_ends(m, head) {
         Ok(ends) => ends,
-        Err(check) => return Err(Refusal::of(check)),
+        Err(check) => return Err(FailedCheck::of(check)),
     };
     match not_understood(m, head, ends) {
-        Some(marker) => Err(Refusal {
+        Some(marker) => Err(FailedCheck {
             check: Check::C9,
             marker,
         }),

@@ -1,4 +1,5 @@
 -- Two dials of a side lie apart in time.
+-- It serves the clauses of `dials_keep_apart`.
 use Rattle.std.proofs.Common.{◌≡◌, ℕ, ◌+◌, ◌≤◌, Bool, true, false, cond, not, ◌||◌, ◌&&◌, List, [], ◌∷◌, ◌++◌, Option, Some, None, is_none, refl, sym, ap, ◌∙◌, append_assoc, append-nil, arith, rules}
 use Rattle.std.specs.Prelude.{nat_le}
 use Rattle.std.specs.List.{list_any, AllByRecursion}
@@ -69,7 +70,8 @@ come_none now (Some at) h = rw h refl
 
 -- ---- the primary hub
 
-primary_dialled : (w : Waits) (E : List HubEvent) (now : ℕ) (e : ConnectorEvent) → dials_primary w E (record { now = now; event = e }) ≡ true → due w Primary (E ++ record { now = now; event = e } ∷ []) ≡ None
+primary_dialled : (w : Waits) (E : List HubEvent) (now : ℕ) (e : ConnectorEvent) → dials_primary w E (record { now = now; event = e }) ≡ true
+    → due w Primary (E ++ record { now = now; event = e } ∷ []) ≡ None
 primary_dialled w E now Start d = due-started w Primary E (record { now = now; event = Start }) refl refl
 primary_dialled w E now (Connected t) d = cc
 primary_dialled w E now (Failed t) d = cc
@@ -106,7 +108,8 @@ idle_none w E h = none_is (due w Failover E) (and_last _ (is_none (due w Failove
 idle_given : (w : Waits) (E : List HubEvent) → is_idle w E ≡ true → w.failover ≡ true
 idle_given w E h = and_first w.failover _ (and_first _ _ (and_first _ (is_none (due w Failover E)) h))
 
-failover_dialled : (w : Waits) (E : List HubEvent) (now : ℕ) (e : ConnectorEvent) → dials_failover w E (record { now = now; event = e }) ≡ true → due w Failover (E ++ record { now = now; event = e } ∷ []) ≡ None
+failover_dialled : (w : Waits) (E : List HubEvent) (now : ℕ) (e : ConnectorEvent) → dials_failover w E (record { now = now; event = e }) ≡ true
+    → due w Failover (E ++ record { now = now; event = e } ∷ []) ≡ None
 failover_dialled w E now Start d = cc
 failover_dialled w E now (Connected t) d = cc
 failover_dialled w E now (Failed Primary) d = due-same w Failover E (record { now = now; event = Failed Primary }) refl refl refl refl ∙ idle_none w E (or_false (is_idle w E) d)

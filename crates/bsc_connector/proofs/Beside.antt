@@ -1,4 +1,5 @@
 -- The primary hub stays connected until it is lost.
+-- It serves the clauses of `no_failover_beside_the_primary`.
 use Rattle.std.proofs.Common.{◌≡◌, ℕ, true, false, List, [], ◌∷◌, ◌++◌, refl, sym, ap, ◌∙◌, append_assoc, append-nil}
 use Rattle.std.specs.List.{list_any}
 use Rattle.bsc_connector.specs.declared.side.Side.TheVariants.{Primary, Failover}

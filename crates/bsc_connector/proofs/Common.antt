@@ -1,4 +1,5 @@
 -- Lemmas that crates above cite too.
+-- It serves many crates above.
 use Rattle.bsc_connector.specs.Back.{first_of}
 use Rattle.bsc_lemmas.proofs.Options.{or_none as or_last, or_assoc as or_three}
 use Rattle.std.proofs.Common.{Option, ◌∷◌, ◌≡◌, ◌++◌, ◌∙◌, List, ap, []}

@@ -1,4 +1,5 @@
 -- What is kept of a side goes on standing for what was told.
+-- It serves the clauses of `event`.
 use Rattle.std.proofs.Common.{◌≡◌, ℕ, ◌+◌, Bool, true, false, cond, ◌||◌, ◌&&◌, List, [], ◌∷◌, ◌++◌, Some, None, refl, ap, sym, subst, ◌∙◌}
 use Rattle.std.specs.Prelude.{nat_le, min, ◌*◌, ⊤}
 use Rattle.bsc_connector.specs.declared.side.Side.{Side}
@@ -16,8 +17,10 @@ use Rattle.bsc_connector.specs.Sides.{same_side, is_start, is_tick, fails, loses
 use Rattle.bsc_connector.specs.Steps.{connector_step}
 use Rattle.bsc_connector.specs.declared.connector.Connector.{Connector}
 use Rattle.bsc_connector.specs.Standing.{SideStands, ConnectorStands, attempt_at, MayCome}
-use Rattle.bsc_connector.specs.Kept.{says_up, says_due, says_tried, says_under_way, accepted, dropped, failed, ticked, started, begun, primary_after, failover_after, attempt_after_tick, attempt_started, attempt_begun, step_kept}
-use Rattle.bsc_connector.proofs.SideLemmas.{up-stays, up-said, failures-cleared, failures-same, failures-one_more, due-cleared, due-failed, due-same, due-ticked, due-started, tried-primary, tried-failover, tried-cleared, wait-doubled, wait-first, unless_come, starts}
+use Rattle.bsc_connector.specs.Kept.{says_up, says_due, says_tried, says_under_way, accepted, dropped, failed, ticked, started, begun, primary_after, failover_after}
+use Rattle.bsc_connector.specs.Kept.{attempt_after_tick, attempt_started, attempt_begun, step_kept}
+use Rattle.bsc_connector.proofs.SideLemmas.{up-stays, up-said, failures-cleared, failures-same, failures-one_more, due-cleared, due-failed, due-same, due-ticked, due-started}
+use Rattle.bsc_connector.proofs.SideLemmas.{tried-primary, tried-failover, tried-cleared, wait-doubled, wait-first, unless_come, starts}
 use Rattle.bsc_lemmas.proofs.Booleans.{and_false, or_false, or_true}
 
 -- the hub of the side accepted, or the primary hub did
@@ -43,7 +46,8 @@ follows-fail w s E e side k h f up tried = record {
 }
 
 -- nothing was told of the side, but it may be tried now
-follows-other : (w : Waits) (s : Side) (E : List HubEvent) (e : HubEvent) (side after : SideState) → SideStands w s E side → clears s e.event ≡ false → fails s e.event ≡ false → is_tick e.event ≡ false → starts s e ≡ false
+follows-other : (w : Waits) (s : Side) (E : List HubEvent) (e : HubEvent) (side after : SideState) → SideStands w s E side → clears s e.event ≡ false → fails s e.event ≡ false
+    → is_tick e.event ≡ false → starts s e ≡ false
     → (clears s e.event || loses s e.event) ≡ false
     → says_up side.attempt ≡ says_up after.attempt → says_due side.attempt ≡ says_due after.attempt → is_tried w s (E ++ e ∷ []) ≡ says_tried after.attempt → side.next_wait ≡ after.next_wait
     → SideStands w s (E ++ e ∷ []) after
@@ -105,7 +109,8 @@ begun_tried Up = refl
 begun_tried (Waiting at) = refl
 
 -- time has passed
-follows-tick : (w : Waits) (s : Side) (E : List HubEvent) (e : HubEvent) (side : SideState) → SideStands w s E side → clears s e.event ≡ false → fails s e.event ≡ false → is_tick e.event ≡ true → starts s e ≡ false
+follows-tick : (w : Waits) (s : Side) (E : List HubEvent) (e : HubEvent) (side : SideState) → SideStands w s E side → clears s e.event ≡ false → fails s e.event ≡ false
+    → is_tick e.event ≡ true → starts s e ≡ false
     → (clears s e.event || loses s e.event) ≡ false → is_tried w s (E ++ e ∷ []) ≡ is_tried w s E
     → SideStands w s (E ++ e ∷ []) (ticked e.now side)
 follows-tick w s E e side k h f t g c tried = record {
@@ -134,7 +139,8 @@ started_tried Up = refl
 started_tried (Waiting at) = refl
 
 -- the node starts
-follows-start : (w : Waits) (E : List HubEvent) (e : HubEvent) (side : SideState) → SideStands w Primary E side → clears Primary e.event ≡ false → fails Primary e.event ≡ false → starts Primary e ≡ true
+follows-start : (w : Waits) (E : List HubEvent) (e : HubEvent) (side : SideState) → SideStands w Primary E side → clears Primary e.event ≡ false → fails Primary e.event ≡ false
+    → starts Primary e ≡ true
     → (clears Primary e.event || loses Primary e.event) ≡ false → is_tried w Primary (E ++ e ∷ []) ≡ true
     → SideStands w Primary (E ++ e ∷ []) (started side)
 follows-start w E e side k h f g c tried = record {
@@ -214,7 +220,8 @@ tried_begun w E e h f =
 not_tried : (w : Waits) (E : List HubEvent) → w.failover ≡ false → is_tried w Failover E ≡ false
 not_tried w E h = rw h refl
 
-follows-trouble : (w : Waits) (E : List HubEvent) (e : HubEvent) (side : SideState) → SideStands w Failover E side → clears Failover e.event ≡ false → fails Failover e.event ≡ false → is_tick e.event ≡ false → starts Failover e ≡ false
+follows-trouble : (w : Waits) (E : List HubEvent) (e : HubEvent) (side : SideState) → SideStands w Failover E side → clears Failover e.event ≡ false → fails Failover e.event ≡ false
+    → is_tick e.event ≡ false → starts Failover e ≡ false
     → (clears Failover e.event || loses Failover e.event) ≡ false → clears Primary e.event ≡ false → fails Primary e.event ≡ true
     → (b : Bool) → w.failover ≡ b → SideStands w Failover (E ++ e ∷ []) (cond b (begun side) side)
 follows-trouble w E e side k h f t i c p q true g =

@@ -1,4 +1,5 @@
 -- How what is told leaves the sides of a connector.
+-- It serves the clauses of `event`.
 use Rattle.std.proofs.Common.{◌≡◌, ℕ, Bool, true, false, not, ◌||◌, ◌&&◌, cond, refl, sym}
 use Rattle.std.proofs.lemmas.Bool.{false≢true}
 use Rattle.bsc_connector.specs.declared.side.Side.{Side}
@@ -27,7 +28,8 @@ come_under_way now UnderWay h = absurd (false≢true h)
 come_under_way now Up h = absurd (false≢true h)
 come_under_way now (Waiting at) h = rw h refl
 
-primary_dials : (w : Waits) (now : ℕ) (p f : SideState) (e : ConnectorEvent) → (is_start e ≡ true → p.attempt ≡ Idle) → (step_kept w now p.attempt f.attempt e).dial_primary ≡ true → (primary_after w now p e).attempt ≡ UnderWay
+primary_dials : (w : Waits) (now : ℕ) (p f : SideState) (e : ConnectorEvent) → (is_start e ≡ true → p.attempt ≡ Idle) → (step_kept w now p.attempt f.attempt e).dial_primary ≡ true
+    → (primary_after w now p e).attempt ≡ UnderWay
 primary_dials w now p f Start idle h = rw (idle refl) refl
 primary_dials w now p f (Connected s) idle h = absurd (false≢true h)
 primary_dials w now p f (Failed s) idle h = absurd (false≢true h)
@@ -87,7 +89,8 @@ primary_keeps w now p (Lost Primary) live h = absurd (false≢true (sym h))
 primary_keeps w now p (Lost Failover) live h = refl
 primary_keeps w now p Tick live h = live_ticked now p.attempt live
 
-failover_keeps : (w : Waits) (now : ℕ) (f : SideState) (e : ConnectorEvent) → is_live f.attempt ≡ true → (clears Failover e || fails Failover e) ≡ false → (failover_after w now f e).attempt ≡ f.attempt
+failover_keeps : (w : Waits) (now : ℕ) (f : SideState) (e : ConnectorEvent) → is_live f.attempt ≡ true → (clears Failover e || fails Failover e) ≡ false
+    → (failover_after w now f e).attempt ≡ f.attempt
 failover_keeps w now f Start live h = refl
 failover_keeps w now f (Connected Primary) live h = absurd (false≢true (sym h))
 failover_keeps w now f (Connected Failover) live h = absurd (false≢true (sym h))
@@ -97,7 +100,8 @@ failover_keeps w now f (Lost Primary) live h = live_begun w.failover f live
 failover_keeps w now f (Lost Failover) live h = absurd (false≢true (sym h))
 failover_keeps w now f Tick live h = live_ticked now f.attempt live
 
-side_keeps : (w : Waits) (p f : SideState) (now : ℕ) (e : ConnectorEvent) (s : Side) → is_live (attempt_at (record { waits = w; primary = p; failover = f }) s) ≡ true → (clears s e || fails s e) ≡ false
+side_keeps : (w : Waits) (p f : SideState) (now : ℕ) (e : ConnectorEvent) (s : Side) → is_live (attempt_at (record { waits = w; primary = p; failover = f }) s) ≡ true
+    → (clears s e || fails s e) ≡ false
     → attempt_at (told_kept (record { waits = w; primary = p; failover = f }) now e) s ≡ attempt_at (record { waits = w; primary = p; failover = f }) s
 side_keeps w p f now e Primary live h = primary_keeps w now p e live h
 side_keeps w p f now e Failover live h = failover_keeps w now f e live h
@@ -121,7 +125,8 @@ live_dropped w now p f e c live = rw c (by f.attempt live)
     by Up h = refl
     by (Waiting at) h = absurd (false≢true h)
 
-idle_stays : (w : Waits) (now : ℕ) (p : SideState) (e : ConnectorEvent) → p.attempt ≡ Idle → is_start e ≡ false → (clears Primary e || fails Primary e) ≡ false → (primary_after w now p e).attempt ≡ Idle
+idle_stays : (w : Waits) (now : ℕ) (p : SideState) (e : ConnectorEvent) → p.attempt ≡ Idle → is_start e ≡ false → (clears Primary e || fails Primary e) ≡ false
+    → (primary_after w now p e).attempt ≡ Idle
 idle_stays w now p Start idle s h = absurd (false≢true (sym s))
 idle_stays w now p (Connected Primary) idle s h = absurd (false≢true (sym h))
 idle_stays w now p (Connected Failover) idle s h = idle
@@ -131,7 +136,8 @@ idle_stays w now p (Lost Primary) idle s h = absurd (false≢true (sym h))
 idle_stays w now p (Lost Failover) idle s h = idle
 idle_stays w now p Tick idle s h = rw idle refl
 
-pub left_by : (w : Waits) (p f : SideState) (now : ℕ) (e : ConnectorEvent) → LeavesConnector (record { waits = w; primary = p; failover = f }) e (step_kept w now p.attempt f.attempt e) (told_kept (record { waits = w; primary = p; failover = f }) now e)
+pub left_by : (w : Waits) (p f : SideState) (now : ℕ) (e : ConnectorEvent)
+    → LeavesConnector (record { waits = w; primary = p; failover = f }) e (step_kept w now p.attempt f.attempt e) (told_kept (record { waits = w; primary = p; failover = f }) now e)
 left_by w p f now e = record {
   primary_dialled = primary_dials w now p f e;
   failover_dialled = failover_dials w now p f e;

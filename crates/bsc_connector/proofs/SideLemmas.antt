@@ -1,4 +1,5 @@
 -- How the facts of a side change by one event more.
+-- It serves clauses of functions of `connector` and `laws`.
 use Rattle.std.proofs.Common.{◌≡◌, ℕ, ◌+◌, Bool, true, false, cond, ◌||◌, ◌&&◌, List, [], ◌∷◌, ◌++◌, Option, Some, None, refl, ap, ◌∙◌}
 use native.Mathlib.Omega.{arith}
 use native.Mathlib.Numerals.{unary_clauses}
@@ -47,7 +48,8 @@ failures-same s E e h f = rw (failures-more s E e h, f) (omega arith)
 pub failures-one_more : (s : Side) (E : List HubEvent) (e : HubEvent) → clears s e.event ≡ false → fails s e.event ≡ true → failures s (E ++ e ∷ []) ≡ failures s E + 1
 failures-one_more s E e h f = rw (failures-more s E e h, f) refl
 
-newest-same : (s : Side) (E : List HubEvent) (e : HubEvent) → clears s e.event ≡ false → fails s e.event ≡ false → newest (λ x. fails s x.event) (trouble s (E ++ e ∷ [])) ≡ newest (λ x. fails s x.event) (trouble s E)
+newest-same : (s : Side) (E : List HubEvent) (e : HubEvent) → clears s e.event ≡ false → fails s e.event ≡ false
+    → newest (λ x. fails s x.event) (trouble s (E ++ e ∷ [])) ≡ newest (λ x. fails s x.event) (trouble s E)
 newest-same s E e h f = rw (trouble-more s E e h, newest-more (λ x. fails s x.event) (trouble s E) e, f) refl
 
 attempt_at : Waits → ℕ → Option HubEvent → Option ℕ
@@ -128,7 +130,8 @@ due-failed w s E e h f =
 pub tried-primary : (w : Waits) (E : List HubEvent) (e : HubEvent) → is_tried w Primary (E ++ e ∷ []) ≡ (is_tried w Primary E || is_start e.event)
 tried-primary w E e = list_any-more (λ x. is_start x.event) E e
 
-pub tried-failover : (w : Waits) (E : List HubEvent) (e : HubEvent) → clears Primary e.event ≡ false → is_tried w Failover (E ++ e ∷ []) ≡ (w.failover && (list_any (λ x. fails Primary x.event) (trouble Primary E) || fails Primary e.event))
+pub tried-failover : (w : Waits) (E : List HubEvent) (e : HubEvent) → clears Primary e.event ≡ false
+    → is_tried w Failover (E ++ e ∷ []) ≡ (w.failover && (list_any (λ x. fails Primary x.event) (trouble Primary E) || fails Primary e.event))
 tried-failover w E e h = rw (trouble-more Primary E e h, list_any-more (λ x. fails Primary x.event) (trouble Primary E) e) refl
 
 pub tried-cleared : (w : Waits) (E : List HubEvent) (e : HubEvent) → clears Primary e.event ≡ true → is_tried w Failover (E ++ e ∷ []) ≡ (w.failover && false)

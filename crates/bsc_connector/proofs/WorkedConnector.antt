@@ -1,4 +1,5 @@
 -- Connectors over written-out lists of events: each line's step, and the hub in use after it, by computation.
+-- No clause needs it: worked examples.
 use Rattle.std.proofs.Common.{◌≡◌, ℕ, true, false, List, [], ◌∷◌, ◌++◌, Some, refl}
 use Rattle.bsc_connector.specs.declared.side.Side.TheVariants.{Primary, Failover}
 use Rattle.bsc_connector.specs.declared.hub_use.HubUse.{HubUse}
@@ -54,7 +55,8 @@ comes_back-uses = refl
 -- The primary hub accepts while the failover is under way: it is dropped, and dialled at once when the primary is lost.
 abbrev dropped_under_way : List HubEvent
 dropped_under_way =
-    at 0 Start ∷ at 100 (Failed Primary) ∷ at 2100 Tick ∷ at 2150 (Connected Primary) ∷ at 5000 Tick ∷ at 6000 (Lost Primary) ∷ at 6100 (Failed Failover) ∷ at 7999 Tick ∷ at 8000 Tick ∷ at 8100 Tick ∷ []
+    at 0 Start ∷ at 100 (Failed Primary) ∷ at 2100 Tick ∷ at 2150 (Connected Primary) ∷ at 5000 Tick ∷ at 6000 (Lost Primary) ∷ at 6100 (Failed Failover) ∷ at 7999 Tick ∷ at 8000 Tick
+    ∷ at 8100 Tick ∷ []
 
 dropped_under_way-steps : steps_after [] dropped_under_way
     ≡ dials_primary ∷ dials_failover ∷ dials_primary ∷ drops_failover ∷ nothing ∷ dials_failover ∷ nothing ∷ nothing ∷ dials_primary ∷ dials_failover ∷ []

@@ -1,4 +1,5 @@
 -- The pass of a broadcast over the rows.
+-- It serves the clauses of `offer_each`.
 use Rattle.std.proofs.Common.{◌≡◌, ℕ, zero, suc, ◌+◌, ◌<◌, ◌^◌, Bool, true, false, cond, List, [], ◌∷◌, ◌++◌, length, filter, drop, get_or, vec_len, Vec, None, refl, ap, sym, ◌∙◌, subst, arith}
 use Rattle.std.proofs.Math.ListN.{set}
 use Rattle.std.specs.List.{AllByRecursion}
@@ -30,7 +31,8 @@ reach_at conn o zero rows [] now r h = ap (λ (l : List Row). get_or l 0 r) h
 reach_at conn o (suc i) (y ∷ rows) (x ∷ fates) (s ∷ now) r h = reach_at conn o i rows fates now r h.1
 reach_at conn o i rows fates now r h = absurd h
 
-reach_more : (conn : ℕ) (o : List ℕ) (i : ℕ) (rows : List Row) (fates : List Fate) (now : List Row) (r : Row) (x : Fate) (s : Row) → i < length rows → Reach conn o i rows fates now → Befalls (is_meant conn) None o (get_or now i r) x s → Reach conn o (suc i) rows (fates ++ x ∷ []) (set now i s)
+reach_more : (conn : ℕ) (o : List ℕ) (i : ℕ) (rows : List Row) (fates : List Fate) (now : List Row) (r : Row) (x : Fate) (s : Row) → i < length rows → Reach conn o i rows fates now
+    → Befalls (is_meant conn) None o (get_or now i r) x s → Reach conn o (suc i) rows (fates ++ x ∷ []) (set now i s)
 reach_more conn o zero [] [] now r x s within h c = absurd (omega arith)
 reach_more conn o zero (y ∷ rows) [] now r x s within h c =
     let c' : Befalls (is_meant conn) None o y x s = subst (λ (l : List Row). Befalls (is_meant conn) None o (get_or l 0 r) x s) h c in
@@ -39,7 +41,8 @@ reach_more conn o (suc i) (y ∷ rows) (z ∷ fates) (n ∷ now) r x s within h 
 reach_more conn o i rows fates now r x s within h c = absurd h
 
 -- one row more
-pub reach_next : (conn : ℕ) (o : List ℕ) (i : ℕ) (rows : List Row) (fates : List Fate) (now : List Row) (r : Row) (x : Fate) (s : Row) → i < length rows → Reach conn o i rows fates now → Befalls (is_meant conn) None o (get_or now i r) x s → Reach conn o (i + 1) rows (fates ++ x ∷ []) (set now i s)
+pub reach_next : (conn : ℕ) (o : List ℕ) (i : ℕ) (rows : List Row) (fates : List Fate) (now : List Row) (r : Row) (x : Fate) (s : Row) → i < length rows → Reach conn o i rows fates now
+    → Befalls (is_meant conn) None o (get_or now i r) x s → Reach conn o (i + 1) rows (fates ++ x ∷ []) (set now i s)
 reach_next conn o i rows fates now r x s within h c =
     let more : suc i ≡ i + 1 = omega arith in
     subst (λ k. Reach conn o k rows (fates ++ x ∷ []) (set now i s)) more (reach_more conn o i rows fates now r x s within h c)
@@ -64,13 +67,15 @@ rest_counted A rows i r within =
     ∙ elim (A x) as (λ b. length (cond b (x ∷ F) F) ≡ one_if b + length F) [ true ↦ omega arith | false ↦ omega arith ]
 
 -- of those that a test keeps among the rest, the next is one if it passes
-pub rest_at : (A : Row → Bool) (conn : ℕ) (o : List ℕ) (i : ℕ) (rows : List Row) (fates : List Fate) (now : List Row) (r : Row) → Reach conn o i rows fates now → i < length rows → length (filter A (drop i rows)) ≡ one_if (A (get_or now i r)) + length (filter A (drop (i + 1) rows))
+pub rest_at : (A : Row → Bool) (conn : ℕ) (o : List ℕ) (i : ℕ) (rows : List Row) (fates : List Fate) (now : List Row) (r : Row) → Reach conn o i rows fates now → i < length rows
+    → length (filter A (drop i rows)) ≡ one_if (A (get_or now i r)) + length (filter A (drop (i + 1) rows))
 rest_at A conn o i rows fates now r h within =
     let more : suc i ≡ i + 1 = omega arith in
     rest_counted A rows i r within ∙ ap (λ (x : Row). one_if (A x) + length (filter A (drop (suc i) rows))) (sym (reach_at conn o i rows fates now r h))
     ∙ ap (λ k. one_if (A (get_or now i r)) + length (filter A (drop k rows))) more
 
-pub few_at : (conn : ℕ) (o : List ℕ) (i : ℕ) (rows : List Row) (fates : List Fate) (now : List Row) (r : Row) → Reach conn o i rows fates now → i < length rows → FewPushed rows → length (pushed (get_or now i r).inlet) < 2 ^ 63
+pub few_at : (conn : ℕ) (o : List ℕ) (i : ℕ) (rows : List Row) (fates : List Fate) (now : List Row) (r : Row) → Reach conn o i rows fates now → i < length rows → FewPushed rows
+    → length (pushed (get_or now i r).inlet) < 2 ^ 63
 few_at conn o i rows fates now r h within few = subst (λ (x : Row). length (pushed x.inlet) < 2 ^ 63) (sym (reach_at conn o i rows fates now r h)) (here rows i within few)
   where
     here : (rows : List Row) (i : ℕ) → i < length rows → FewPushed rows → length (pushed (get_or rows i r).inlet) < 2 ^ 63

@@ -1,4 +1,5 @@
 -- The choice of a connect is its reply after every history that the desk stands for.
+-- It serves the clauses of `choose`.
 use Rattle.std.proofs.Common.{◌≡◌, ◌+◌, ◌&&◌, List, length, map, find, is_some, nat_le, refl, ap, sym, ◌∙◌}
 use Rattle.std.specs.Option.{option_map}
 use Rattle.std.proofs.lemmas.List.{length-map}
@@ -26,10 +27,16 @@ use Rattle.bsc_desk.proofs.LiveRows.{live_found, stopped_so}
 size : (rows : List Row) → length (map connection rows) ≡ length rows
 size rows = simp length-map
 
-pub device_found : (d : Desk) (S : List Stamped) (u : DeviceId) → DeskStands d S → option_map connection (find (λ r. is_open r && same_device r.connection.who.device u) d.rows.items) ≡ of_device (entries S) u
+pub device_found : (d : Desk) (S : List Stamped) (u : DeviceId) → DeskStands d S
+    → option_map connection (find (λ r. is_open r && same_device r.connection.who.device u) d.rows.items) ≡ of_device (entries S) u
 device_found d S u s = sym (live_found d S (λ (c : Connection). same_device c.who.device u) s)
 
-pub chosen : (d : Desk) (S : List Stamped) (who : Identity) → DeskStands d S → first_reply (is_some d.stopped_at) (same_vmac who.vmac d.about.hub.vmac) (rival who (option_map connection (find (λ r. is_open r && same_vmac r.connection.who.vmac who.vmac) d.rows.items))) (nat_le d.about.limits.rows (length d.rows.items)) d.about.limits.rows (JoinedReply (1 + d.tally.counts.joined) (number_of (option_map connection (find (λ r. is_open r && same_device r.connection.who.device who.device) d.rows.items)))) ≡ connect_reply d.about (entries S) who
+pub chosen : (d : Desk) (S : List Stamped) (who : Identity) → DeskStands d S
+    → first_reply (is_some d.stopped_at) (same_vmac who.vmac d.about.hub.vmac)
+    (rival who (option_map connection (find (λ r. is_open r && same_vmac r.connection.who.vmac who.vmac) d.rows.items)))
+    (nat_le d.about.limits.rows (length d.rows.items)) d.about.limits.rows
+    (JoinedReply (1 + d.tally.counts.joined) (number_of (option_map connection (find (λ r. is_open r && same_device r.connection.who.device who.device) d.rows.items))))
+    ≡ connect_reply d.about (entries S) who
 unfolding connect_reply
 chosen d S who s =
     let h = entries S in

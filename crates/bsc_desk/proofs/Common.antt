@@ -1,4 +1,5 @@
 -- Lemmas that crates above cite too.
+-- It serves bsc_hub_core.
 use Rattle.bsc_desk.specs.Live.{connection}
 use Rattle.bsc_desk.specs.Meetings.{IsOutletOf, KnowsOutbox}
 use Rattle.bsc_desk.specs.declared.desk.Desk.{Desk}
@@ -16,7 +17,8 @@ use Rattle.std.proofs.Common.{Option, subst, ◌≡◌, ◌∙◌, List, ℕ, tr
 use Rattle.std.proofs.lemmas.Bool.{or_left, or_right, or_cases}
 use Rattle.std.specs.List.{list_any}
 
-pub gave_all : (d : Desk) (S : List Stamped) (c : ℕ) (o p : Outlet) (e : Option End) → IsOutletOf d.about (entries S) c o → KnowsOutbox d.about (entries S) c o → GaveAll o e p → given p ≡ sent d.about (entries S) c
+pub gave_all : (d : Desk) (S : List Stamped) (c : ℕ) (o p : Outlet) (e : Option End) → IsOutletOf d.about (entries S) c o → KnowsOutbox d.about (entries S) c o → GaveAll o e p
+    → given p ≡ sent d.about (entries S) c
 gave_all d S c o p e h k g =
     g.0 ∙ same_fronts (given o) (sent d.about (entries S) c) (subst (StartsWith (given o)) k.items g.2) h.begins
 

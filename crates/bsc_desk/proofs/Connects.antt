@@ -1,5 +1,7 @@
 -- A connect, refused or joined.
-use Rattle.std.proofs.Common.{◌≡◌, ℕ, ◌+◌, ◌<◌, ◌&&◌, nat_lt, Bool, true, false, not, cond, List, [], ◌∷◌, ◌++◌, length, map, filter, find, Option, Some, None, is_some, refl, ap, sym, ◌∙◌, subst, arith, append-nil}
+-- It serves clauses of functions of `desk`.
+use Rattle.std.proofs.Common.{◌≡◌, ℕ, ◌+◌, ◌<◌, ◌&&◌, nat_lt, Bool, true, false, not, cond, List, [], ◌∷◌, ◌++◌, length, map, filter, find, Option, Some, None, is_some, refl, ap}
+use Rattle.std.proofs.Common.{sym, ◌∙◌, subst, arith, append-nil}
 use Rattle.std.specs.List.{AllByRecursion}
 use Rattle.std.specs.Option.{option_or}
 use Rattle.std.proofs.lemmas.Bool.{and_from, eq-eqb, lt-ltb}
@@ -44,21 +46,26 @@ use Rattle.bsc_lemmas.proofs.Lists.{all-push}
 use Rattle.bsc_lemmas.proofs.Numbers.{eq_turned as eqb_comm}
 use Rattle.bsc_lemmas.proofs.Options.{or_none}
 
-pub lawful_connect : (d : Desk) (S : List Stamped) (caller : ℕ) (who : Identity) (reply : Reply) → DeskStands d S → same_vmac who.vmac zero_vmac ≡ false → same_vmac who.vmac broadcast ≡ false → d.tally.made < d.about.limits.calls → reply ≡ connect_reply d.about (entries S) who → Lawful d.about (moment (entries S) (connect_entry caller who reply))
+pub lawful_connect : (d : Desk) (S : List Stamped) (caller : ℕ) (who : Identity) (reply : Reply) → DeskStands d S → same_vmac who.vmac zero_vmac ≡ false
+    → same_vmac who.vmac broadcast ≡ false → d.tally.made < d.about.limits.calls → reply ≡ connect_reply d.about (entries S) who → Lawful d.about (moment (entries S) (connect_entry caller who reply))
 lawful_connect d S caller who reply p zero all calls says = record {
   replied = says;
   named = refl;
   found = refl;
-  called = and_from (not (same_vmac who.vmac zero_vmac) && not (same_vmac who.vmac broadcast)) (nat_lt (length (entries S)) d.about.limits.calls) (and_from (not (same_vmac who.vmac zero_vmac)) (not (same_vmac who.vmac broadcast)) (ap not zero) (ap not all))
+  called = and_from (not (same_vmac who.vmac zero_vmac) && not (same_vmac who.vmac broadcast)) (nat_lt (length (entries S)) d.about.limits.calls)
+      (and_from (not (same_vmac who.vmac zero_vmac)) (not (same_vmac who.vmac broadcast)) (ap not zero) (ap not all))
       (ap (λ (n : ℕ). nat_lt n d.about.limits.calls) (length_entries S ∙ sym p.entered) ∙ lt-ltb d.tally.made d.about.limits.calls calls);
 }
 
 -- a refusal
-pub stands_refused : (d n : Desk) (S : List Stamped) (caller : ℕ) (who : Identity) (m : Mark) (refusal : Refusal) → DeskStands d S → Lawful d.about (moment (entries S) (connect_entry caller who (RefusedReply refusal))) → n.about ≡ d.about → n.stopped_at ≡ d.stopped_at → n.tally.made ≡ d.tally.made + 1 → n.tally.counts ≡ plus d.tally.counts (record no_counts { refused = 1 }) → n.rows.items ≡ d.rows.items → DeskStands n (S ++ connect_stamped caller who m (RefusedReply refusal) ∷ [])
+pub stands_refused : (d n : Desk) (S : List Stamped) (caller : ℕ) (who : Identity) (m : Mark) (refusal : Refusal) → DeskStands d S
+    → Lawful d.about (moment (entries S) (connect_entry caller who (RefusedReply refusal))) → n.about ≡ d.about → n.stopped_at ≡ d.stopped_at → n.tally.made ≡ d.tally.made + 1
+    → n.tally.counts ≡ plus d.tally.counts (record no_counts { refused = 1 }) → n.rows.items ≡ d.rows.items → DeskStands n (S ++ connect_stamped caller who m (RefusedReply refusal) ∷ [])
 unfolding added_by
 stands_refused d n S caller who m refusal p lawful about stop made count rows =
     let s = connect_stamped caller who m (RefusedReply refusal) in
-    stands_same d n S s p lawful (record { goes_on = refl; stays = λ c. refl; joins_none = refl }) (record { ends_none = λ c. refl; looks_none = refl; adds_nothing = λ c. refl }) about stop made count rows
+    stands_same d n S s p lawful (record { goes_on = refl; stays = λ c. refl; joins_none = refl })
+    (record { ends_none = λ c. refl; looks_none = refl; adds_nothing = λ c. refl }) about stop made count rows
 
 -- a row by a connect, which ends the connection that it replaces
 
@@ -66,7 +73,8 @@ same_test : (replaced : Option ℕ) (r : Row) → is_row replaced r ≡ is_one r
 same_test None r = refl
 same_test (Some k) r = eqb_comm r.connection.number k
 
-joined_one : (a : About) (H : List Entry) (caller : ℕ) (who : Identity) (conn : ℕ) (replaced : Option ℕ) (r t : Row) → FinishesIf (is_row replaced r) Replaced r t → RowGoes a H (connect_entry caller who (JoinedReply conn replaced)) r t
+joined_one : (a : About) (H : List Entry) (caller : ℕ) (who : Identity) (conn : ℕ) (replaced : Option ℕ) (r t : Row) → FinishesIf (is_row replaced r) Replaced r t
+    → RowGoes a H (connect_entry caller who (JoinedReply conn replaced)) r t
 unfolding added_by
 joined_one a H caller who conn replaced r t fin =
     let e = connect_entry caller who (JoinedReply conn replaced) in
@@ -96,7 +104,9 @@ joined_one a H caller who conn replaced r t fin =
     by (is_one c replaced) refl (subst (λ b. FinishesIf b Replaced r t) (same_test replaced r) fin)
 
 -- the inlet of the connection that joins
-pub inlet_new : (a : About) (S : List Stamped) (caller : ℕ) (who : Identity) (conn : ℕ) (replaced : Option ℕ) (r : Row) → Legal a (entries S) → Lawful a (moment (entries S) (connect_entry caller who (JoinedReply conn replaced))) → IsNewInlet r.inlet → capacity_of r.inlet ≡ a.limits.outbox → IsInletOf a (S ++ connect_stamped caller who (inlet_mark r.inlet) (JoinedReply conn replaced) ∷ []) conn r.inlet
+pub inlet_new : (a : About) (S : List Stamped) (caller : ℕ) (who : Identity) (conn : ℕ) (replaced : Option ℕ) (r : Row) → Legal a (entries S)
+    → Lawful a (moment (entries S) (connect_entry caller who (JoinedReply conn replaced))) → IsNewInlet r.inlet → capacity_of r.inlet ≡ a.limits.outbox
+    → IsInletOf a (S ++ connect_stamped caller who (inlet_mark r.inlet) (JoinedReply conn replaced) ∷ []) conn r.inlet
 unfolding added_by
 inlet_new a S caller who conn replaced r legal lawful new holds =
     let H = entries S in
@@ -114,14 +124,20 @@ inlet_new a S caller who conn replaced r legal lawful new holds =
       marked = mark_new S s conn fresh (eq-eqb conn conn refl);
       items = new.0 ∙ sym (ap (λ (G : List Entry). sent a G conn) more ∙ quiet);
       looks = new.1 ∙ sym (ap (λ (G : List Entry). all_found G conn) more ∙ unseen);
-      finished = new.2 ∙ sym (ap (λ (G : List Entry). ended G conn) more ∙ ended-more H e conn ∙ ap (λ (b : Bool). option_or (ended H conn) (cond b (end_by conn e) None)) fresh ∙ ap (λ (w : Option End). option_or w None) (not_joined H conn fresh));
+      finished = new.2 ∙ sym (ap (λ (G : List Entry). ended G conn) more ∙ ended-more H e conn ∙ ap (λ (b : Bool). option_or (ended H conn) (cond b (end_by conn e) None)) fresh
+          ∙ ap (λ (w : Option End). option_or w None) (not_joined H conn fresh));
     }
 
 none_leave : (xs : List Connection) → filter (λ x. not false) xs ≡ xs
 none_leave [] = refl
 none_leave (x ∷ xs) = ap (λ (l : List Connection). x ∷ l) (none_leave xs)
 
-pub stands_joined : (d n : Desk) (S : List Stamped) (caller : ℕ) (who : Identity) (conn : ℕ) (replaced : Option ℕ) (after : List Row) (new : Row) → DeskStands d S → Lawful d.about (moment (entries S) (connect_entry caller who (JoinedReply conn replaced))) → n.about ≡ d.about → n.stopped_at ≡ d.stopped_at → n.tally.made ≡ d.tally.made + 1 → n.tally.counts ≡ plus d.tally.counts (record no_counts { joined = 1; replaced = one_if (is_some replaced) }) → EachBecomes (λ r t. FinishesIf (is_row replaced r) Replaced r t) d.rows.items after → n.rows.items ≡ after ++ new ∷ [] → connection new ≡ record { number = conn; caller = caller; who = who } → IsNewInlet new.inlet → capacity_of new.inlet ≡ d.about.limits.outbox → DeskStands n (S ++ connect_stamped caller who (inlet_mark new.inlet) (JoinedReply conn replaced) ∷ [])
+pub stands_joined : (d n : Desk) (S : List Stamped) (caller : ℕ) (who : Identity) (conn : ℕ) (replaced : Option ℕ) (after : List Row) (new : Row) → DeskStands d S
+    → Lawful d.about (moment (entries S) (connect_entry caller who (JoinedReply conn replaced))) → n.about ≡ d.about → n.stopped_at ≡ d.stopped_at → n.tally.made ≡ d.tally.made + 1
+    → n.tally.counts ≡ plus d.tally.counts (record no_counts { joined = 1; replaced = one_if (is_some replaced) })
+    → EachBecomes (λ r t. FinishesIf (is_row replaced r) Replaced r t) d.rows.items after → n.rows.items ≡ after ++ new ∷ []
+    → connection new ≡ record { number = conn; caller = caller; who = who } → IsNewInlet new.inlet → capacity_of new.inlet ≡ d.about.limits.outbox
+    → DeskStands n (S ++ connect_stamped caller who (inlet_mark new.inlet) (JoinedReply conn replaced) ∷ [])
 stands_joined d n S caller who conn replaced after new p lawful about stop made count each rows is fresh holds =
     let a = d.about in
     let H = entries S in
@@ -136,9 +152,11 @@ stands_joined d n S caller who conn replaced after new p lawful about stop made 
       stop = stop ∙ sym (or_none d.stopped_at);
       made = made;
       count = count;
-      rows = ap (map connection) rows ∙ map-append connection after (new ∷ []) ∙ ap (λ (k : Connection). map connection after ++ k ∷ []) is ∙ ap (λ (l : List Connection). l ++ record { number = conn; caller = caller; who = who } ∷ []) (same ∙ sym (none_leave (map connection d.rows.items)));
+      rows = ap (map connection) rows ∙ map-append connection after (new ∷ []) ∙ ap (λ (k : Connection). map connection after ++ k ∷ []) is
+          ∙ ap (λ (l : List Connection). l ++ record { number = conn; caller = caller; who = who } ∷ []) (same ∙ sym (none_leave (map connection d.rows.items)));
     } in
-    stands_more d n S s p lawful keeps (subst (AllByRecursion (λ r. IsInletOf a (S ++ s ∷ []) r.connection.number r.inlet)) (sym rows) (all-push (λ r. IsInletOf a (S ++ s ∷ []) r.connection.number r.inlet) after new old one))
+    stands_more d n S s p lawful keeps (subst (AllByRecursion (λ r. IsInletOf a (S ++ s ∷ []) r.connection.number r.inlet)) (sym rows)
+    (all-push (λ r. IsInletOf a (S ++ s ∷ []) r.connection.number r.inlet) after new old one))
 
 -- what is known of each outbox stays, and of the new one nothing is known
 
@@ -146,10 +164,13 @@ pub known_finish : (b : Bool) (ending : End) (r t : Row) → FinishesIf b ending
 known_finish true ending r t f = (f.same, f.known)
 known_finish false ending r t f = (ap connection f, ap (λ (x : Row). known_taken x.inlet) f)
 
-pub known_joined : (replaced : Option ℕ) (c : ℕ) (rows after : List Row) (new : Row) → EachBecomes (λ r t. FinishesIf (is_row replaced r) Replaced r t) rows after → known_taken new.inlet ≡ 0 → known_in (find (has_number c) (after ++ new ∷ [])) ≡ known_in (find (has_number c) rows)
+pub known_joined : (replaced : Option ℕ) (c : ℕ) (rows after : List Row) (new : Row) → EachBecomes (λ r t. FinishesIf (is_row replaced r) Replaced r t) rows after → known_taken new.inlet ≡ 0
+    → known_in (find (has_number c) (after ++ new ∷ [])) ≡ known_in (find (has_number c) rows)
 known_joined replaced c rows after new each none =
-    let on : (o : Option Row) → known_in (option_or o (cond (has_number c new) (Some new) None)) ≡ known_in o = λ o. elim o as (λ o. known_in (option_or o (cond (has_number c new) (Some new) None)) ≡ known_in o) [
+    let on : (o : Option Row) → known_in (option_or o (cond (has_number c new) (Some new) None)) ≡ known_in o =
+    λ o. elim o as (λ o. known_in (option_or o (cond (has_number c new) (Some new) None)) ≡ known_in o) [
       | None ↦ elim (has_number c new) as (λ b. known_in (cond b (Some new) None) ≡ 0) [ true ↦ none | false ↦ refl ]
       | Some r ↦ refl
     ] in
-    ap known_in (find-append (has_number c) after (new ∷ [])) ∙ on (find (has_number c) after) ∙ each_found known_in (λ r t. FinishesIf (is_row replaced r) Replaced r t) c rows after (λ r t f. known_finish (is_row replaced r) Replaced r t f) each
+    ap known_in (find-append (has_number c) after (new ∷ [])) ∙ on (find (has_number c) after)
+    ∙ each_found known_in (λ r t. FinishesIf (is_row replaced r) Replaced r t) c rows after (λ r t f. known_finish (is_row replaced r) Replaced r t f) each

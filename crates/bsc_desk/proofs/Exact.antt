@@ -14,7 +14,9 @@ use Rattle.bsc_desk.specs.Rows.{known_of}
 same_end : (c m n : ℕ) (looks : List Look) → list_any (λ k. k.conn == c) looks ≡ true → fold (newer c) m looks ≡ fold (newer c) n looks
 same_end c m n [] some = cc
 same_end c m n (k ∷ ks) some =
-    let by : (b : Bool) → (b || list_any (λ l. l.conn == c) ks) ≡ true → fold (newer c) (cond b k.taken m) ks ≡ fold (newer c) (cond b k.taken n) ks = λ b. elim b as (λ b. (b || list_any (λ l. l.conn == c) ks) ≡ true → fold (newer c) (cond b k.taken m) ks ≡ fold (newer c) (cond b k.taken n) ks) [ true ↦ λ e. refl | false ↦ λ e. same_end c m n ks e ] in
+    let by : (b : Bool) → (b || list_any (λ l. l.conn == c) ks) ≡ true → fold (newer c) (cond b k.taken m) ks ≡ fold (newer c) (cond b k.taken n) ks =
+    λ b. elim b as (λ b. (b || list_any (λ l. l.conn == c) ks) ≡ true → fold (newer c) (cond b k.taken m) ks
+    ≡ fold (newer c) (cond b k.taken n) ks) [ true ↦ λ e. refl | false ↦ λ e. same_end c m n ks e ] in
     by (k.conn == c) some
 
 -- Of a connection that was looked at, what the desk knows after the call is the newest look after its entry.
@@ -25,14 +27,16 @@ known_looked d n H e c l some = l.known c ∙ same_end c (known_of d c) (looked 
 grows : (d : Desk) (c x : ℕ) (looks : List Look) → known_of d c ≤ x → AllByRecursion (λ k. known_of d k.conn ≤ k.taken) looks → known_of d c ≤ fold (newer c) x looks
 grows d c x [] low all = low
 grows d c x (k ∷ ks) low all =
-    let by : (b : Bool) → (k.conn == c) ≡ b → known_of d c ≤ cond b k.taken x = λ b. elim b as (λ b. (k.conn == c) ≡ b → known_of d c ≤ cond b k.taken x) [ true ↦ λ e. subst (λ n. known_of d n ≤ k.taken) (eqb-true k.conn c e) all.0 | false ↦ λ e. low ] in
+    let by : (b : Bool) → (k.conn == c) ≡ b → known_of d c ≤ cond b k.taken x =
+    λ b. elim b as (λ b. (k.conn == c) ≡ b → known_of d c ≤ cond b k.taken x) [ true ↦ λ e. subst (λ n. known_of d n ≤ k.taken) (eqb-true k.conn c e) all.0 | false ↦ λ e. low ] in
     grows d c (cond (k.conn == c) k.taken x) ks (by (k.conn == c) refl) all.1
 
 pub known_grows : (d n : Desk) (looks : List Look) (c : ℕ) → Learns d looks n → known_of d c ≤ known_of n c
 known_grows d n looks c l = subst (λ m. known_of d c ≤ m) (sym (l.known c)) (grows d c (known_of d c) looks (omega arith) l.at_least)
 
 -- Where so many were known to be taken, and by the next meeting no look found more, the look found just so many.
-pub exact_look : (d n : Desk) (H : List Entry) (e : Entry) (c taken : ℕ) → Learns d e.looks n → known_of d c ≡ taken → looked (H ++ e ∷ []) c ≤ taken → list_any (λ k. k.conn == c) e.looks ≡ true → known_of n c ≡ taken
+pub exact_look : (d n : Desk) (H : List Entry) (e : Entry) (c taken : ℕ) → Learns d e.looks n → known_of d c ≡ taken → looked (H ++ e ∷ []) c ≤ taken
+    → list_any (λ k. k.conn == c) e.looks ≡ true → known_of n c ≡ taken
 exact_look d n H e c taken l known behind some =
     let least = known_grows d n e.looks c l in
     let same = known_looked d n H e c l some in

@@ -1,4 +1,5 @@
 -- What became of a frame at the rows, said row by row.
+-- It serves clauses of functions of `desk` and `rows`.
 use Rattle.std.proofs.Common.{◌≡◌, ℕ, ◌-◌, ◌≤◌, ◌==◌, Bool, true, false, ◌&&◌, ◌||◌, cond, List, [], ◌∷◌, ◌++◌, length, map, filter, fold, Option, None, refl, ap, sym, ◌∙◌, subst, arith, append-nil}
 use Rattle.std.specs.Bool.{⊤}
 use Rattle.std.specs.List.{list_any, list_all, AllByRecursion}
@@ -78,12 +79,14 @@ module _ (t : Row → Bool) (full : Option End) (o : List ℕ) where
   all_test u rows fates after same h = absurd h
 
   -- a row by its fate
-  pub each_fate : (R : Row → Row → Type 0) (Q : Row → Fate → Type 0) (P : Row → Type 0) (rows : List Row) (fates : List Fate) (after : List Row) → ((r : Row) (x : Fate) (s : Row) → P r → Q r x → Befalls t full o r x s → R r s) → AllByRecursion P rows → AllFates Q rows fates → AllBefall t full o rows fates after → EachBecomes R rows after
+  pub each_fate : (R : Row → Row → Type 0) (Q : Row → Fate → Type 0) (P : Row → Type 0) (rows : List Row) (fates : List Fate) (after : List Row)
+      → ((r : Row) (x : Fate) (s : Row) → P r → Q r x → Befalls t full o r x s → R r s) → AllByRecursion P rows → AllFates Q rows fates → AllBefall t full o rows fates after → EachBecomes R rows after
   each_fate R Q P [] [] [] f all say h = tt
   each_fate R Q P (r ∷ rows) (x ∷ fates) (s ∷ after) f all say h = (f r x s all.0 say.0 h.0, each_fate R Q P rows fates after f all.1 say.1 h.1)
   each_fate R Q P rows fates after f all say h = absurd h
 
-  pub more_said : (P : Row → Type 0) (Q U : Row → Fate → Type 0) (rows : List Row) (fates : List Fate) (after : List Row) → ((r : Row) (x : Fate) (s : Row) → P r → Q r x → Befalls t full o r x s → U r x) → AllByRecursion P rows → AllFates Q rows fates → AllBefall t full o rows fates after → AllFates U rows fates
+  pub more_said : (P : Row → Type 0) (Q U : Row → Fate → Type 0) (rows : List Row) (fates : List Fate) (after : List Row)
+      → ((r : Row) (x : Fate) (s : Row) → P r → Q r x → Befalls t full o r x s → U r x) → AllByRecursion P rows → AllFates Q rows fates → AllBefall t full o rows fates after → AllFates U rows fates
   more_said P Q U [] [] [] f all say h = tt
   more_said P Q U (r ∷ rows) (x ∷ fates) (s ∷ after) f all say h = (f r x s all.0 say.0 h.0, more_said P Q U rows fates after f all.1 say.1 h.1)
   more_said P Q U rows fates after f all say h = absurd h
@@ -106,7 +109,8 @@ pub fold_seen : (c n : ℕ) (looks : List Look) → fold (newer c) n looks ≡ f
 fold_seen c n [] = refl
 fold_seen c n (k ∷ ks) =
     let F = filter (λ (l : Look). l.conn == c) ks in
-    let by : (b : Bool) → (k.conn == c) ≡ b → fold (newer c) (cond b k.taken n) ks ≡ fold (newer c) n (cond b (k ∷ F) F) = λ b. elim b as (λ b. (k.conn == c) ≡ b → fold (newer c) (cond b k.taken n) ks ≡ fold (newer c) n (cond b (k ∷ F) F)) [
+    let by : (b : Bool) → (k.conn == c) ≡ b → fold (newer c) (cond b k.taken n) ks ≡ fold (newer c) n (cond b (k ∷ F) F) =
+    λ b. elim b as (λ b. (k.conn == c) ≡ b → fold (newer c) (cond b k.taken n) ks ≡ fold (newer c) n (cond b (k ∷ F) F)) [
       | true ↦ λ e. fold_seen c k.taken ks ∙ sym (ap (λ (b : Bool). fold (newer c) (cond b k.taken n) F) e)
       | false ↦ λ e. fold_seen c n ks
     ] in
@@ -125,7 +129,8 @@ found_by (Entered k) n = k.taken
 found_by (FoundFull k) n = k.taken
 found_by x n = n
 
-pub newest_seen : (t : Row → Bool) (full : Option End) (o : List ℕ) (r : Row) (x : Fate) (s : Row) (looks : List Look) (n : ℕ) → Befalls t full o r x s → filter (λ k. k.conn == number r) looks ≡ looks_in x → fold (newer (number r)) n looks ≡ found_by x n
+pub newest_seen : (t : Row → Bool) (full : Option End) (o : List ℕ) (r : Row) (x : Fate) (s : Row) (looks : List Look) (n : ℕ) → Befalls t full o r x s
+    → filter (λ k. k.conn == number r) looks ≡ looks_in x → fold (newer (number r)) n looks ≡ found_by x n
 newest_seen t full o r Unmeant s looks n h seen = fold_seen (number r) n looks ∙ ap (fold (newer (number r)) n) seen
 newest_seen t full o r (TooLong c) s looks n h seen = fold_seen (number r) n looks ∙ ap (fold (newer (number r)) n) seen
 newest_seen t full o r (Entered k) s looks n h seen = fold_seen (number r) n looks ∙ ap (fold (newer (number r)) n) seen ∙ ap (λ (b : Bool). cond b k.taken n) (eq-eqb k.conn (number r) h.1.0.conn)
@@ -141,8 +146,10 @@ module _ (a : About) (S : List Stamped) (caller conn : ℕ) (m : List ℕ) (look
   Adds c = added a (moment (entries S) e) (sent a (entries S) c) c ≡ cond (names c reply) (o ∷ []) []
 
   pub goes : ((r : Row) → t r ≡ true → is_open r ≡ true) → (r : Row) (x : Fate) (s : Row) → Adds (number r) → Told full reply looks (number r) x → Befalls t full o r x s → RowGoes a (entries S) e r s
-  goes opens r Unmeant s adds told h = subst (RowGoes a (entries S) e r) (sym h.1) (refl, follows_same a (entries S) e (number r) r.inlet (adds ∙ ap (λ (b : Bool). cond b (o ∷ []) []) told.named) (ap (map (λ (k : Look). k.taken)) told.seen) told.ended)
-  goes opens r (TooLong c) s adds told h = subst (RowGoes a (entries S) e r) (sym h.1.2) (refl, follows_same a (entries S) e (number r) r.inlet (adds ∙ ap (λ (b : Bool). cond b (o ∷ []) []) told.named) (ap (map (λ (k : Look). k.taken)) told.seen) told.ended)
+  goes opens r Unmeant s adds told h = subst (RowGoes a (entries S) e r) (sym h.1)
+      (refl, follows_same a (entries S) e (number r) r.inlet (adds ∙ ap (λ (b : Bool). cond b (o ∷ []) []) told.named) (ap (map (λ (k : Look). k.taken)) told.seen) told.ended)
+  goes opens r (TooLong c) s adds told h = subst (RowGoes a (entries S) e r) (sym h.1.2)
+      (refl, follows_same a (entries S) e (number r) r.inlet (adds ∙ ap (λ (b : Bool). cond b (o ∷ []) []) told.named) (ap (map (λ (k : Look). k.taken)) told.seen) told.ended)
   goes opens r (Entered k) s adds told h = (
     h.1.0.same,
     record {
@@ -166,29 +173,34 @@ module _ (a : About) (S : List Stamped) (caller conn : ℕ) (m : List ℕ) (look
 
 -- a look finds what there is to find
 
-look_can : (a : About) (S : List Stamped) (r : Row) (k : Look) → IsInletOf a S (number r) r.inlet → k.conn ≡ number r → newest (loads r.inlet) ≤ k.taken → k.taken ≤ length (pushed r.inlet) → (can_find a (entries S) k.conn k.taken && true) ≡ true
+look_can : (a : About) (S : List Stamped) (r : Row) (k : Look) → IsInletOf a S (number r) r.inlet → k.conn ≡ number r → newest (loads r.inlet) ≤ k.taken → k.taken ≤ length (pushed r.inlet)
+    → (can_find a (entries S) k.conn k.taken && true) ≡ true
 look_can a S r k p same low high =
     let q = subst (λ c. IsInletOf a S c r.inlet) (sym same) p in
     let lower : looked (entries S) k.conn ≤ k.taken = subst (λ n. n ≤ k.taken) (newest_look a S k.conn r.inlet q) low in
     let upper : k.taken ≤ length (sent a (entries S) k.conn) = subst (λ (l : List Item). k.taken ≤ length l) q.items high in
     and_from _ true (and_from _ _ (le-leb (looked (entries S) k.conn) k.taken lower) (le-leb k.taken (length (sent a (entries S) k.conn)) upper)) refl
 
-pub can_be : (a : About) (S : List Stamped) (t : Row → Bool) (full : Option End) (o : List ℕ) (r : Row) (x : Fate) (s : Row) → IsInletOf a S (number r) r.inlet → Befalls t full o r x s → list_all (λ k. can_find a (entries S) k.conn k.taken) (looks_in x) ≡ true
+pub can_be : (a : About) (S : List Stamped) (t : Row → Bool) (full : Option End) (o : List ℕ) (r : Row) (x : Fate) (s : Row) → IsInletOf a S (number r) r.inlet → Befalls t full o r x s
+    → list_all (λ k. can_find a (entries S) k.conn k.taken) (looks_in x) ≡ true
 can_be a S t full o r Unmeant s p h = refl
 can_be a S t full o r (TooLong c) s p h = refl
 can_be a S t full o r (Entered k) s p h = look_can a S r k p h.1.0.conn h.1.0.look.later h.1.0.look.within
 can_be a S t full o r (FoundFull k) s p h = look_can a S r k p h.1.0.conn h.1.0.look.later h.1.0.look.within
 
-pub can_all : (a : About) (S : List Stamped) (t : Row → Bool) (full : Option End) (o : List ℕ) (rows : List Row) (fates : List Fate) (after : List Row) → AllByRecursion (λ r. IsInletOf a S r.connection.number r.inlet) rows → AllBefall t full o rows fates after → list_all (λ k. can_find a (entries S) k.conn k.taken) (looks_of fates) ≡ true
+pub can_all : (a : About) (S : List Stamped) (t : Row → Bool) (full : Option End) (o : List ℕ) (rows : List Row) (fates : List Fate) (after : List Row)
+    → AllByRecursion (λ r. IsInletOf a S r.connection.number r.inlet) rows → AllBefall t full o rows fates after → list_all (λ k. can_find a (entries S) k.conn k.taken) (looks_of fates) ≡ true
 can_all a S t full o [] [] [] all h = refl
 can_all a S t full o (r ∷ rows) (x ∷ fates) (s ∷ after) all h =
     let f = λ (k : Look). can_find a (entries S) k.conn k.taken in
-    list_all-append f (looks_in x) (looks_of fates) ∙ and_from (list_all f (looks_in x)) (list_all f (looks_of fates)) (can_be a S t full o r x s all.0 h.0) (can_all a S t full o rows fates after all.1 h.1)
+    list_all-append f (looks_in x) (looks_of fates) ∙ and_from (list_all f (looks_in x)) (list_all f (looks_of fates)) (can_be a S t full o r x s all.0 h.0)
+    (can_all a S t full o rows fates after all.1 h.1)
 can_all a S t full o rows fates after all h = absurd h
 
 -- by its own look a row is found full exactly where the frame found it so
 
-pub full_seen : (a : About) (S : List Stamped) (t : Row → Bool) (full : Option End) (o : List ℕ) (looks : List Look) (r : Row) (x : Fate) (s : Row) → IsInletOf a S (number r) r.inlet → filter (λ k. k.conn == number r) looks ≡ looks_in x → Befalls t full o r x s → is_found_full a (sent a (entries S) (number r)) looks (number r) ≡ is_full x
+pub full_seen : (a : About) (S : List Stamped) (t : Row → Bool) (full : Option End) (o : List ℕ) (looks : List Look) (r : Row) (x : Fate) (s : Row) → IsInletOf a S (number r) r.inlet
+    → filter (λ k. k.conn == number r) looks ≡ looks_in x → Befalls t full o r x s → is_found_full a (sent a (entries S) (number r)) looks (number r) ≡ is_full x
 full_seen a S t full o looks r x s p seen h =
     let E = sent a (entries S) (number r) in
     let f = λ (k : Look). finds_full a E k.taken in

@@ -1,4 +1,5 @@
 -- Rows that are finished.
+-- It serves the clauses of `finish_each`, `finish_one` and `finish`.
 use Rattle.std.proofs.Common.{◌≡◌, ℕ, zero, suc, ◌+◌, ◌<◌, true, false, List, [], ◌∷◌, length, get_or, Option, Some, None, is_some, refl, ap, sym, ◌∙◌, subst, arith}
 use Rattle.std.proofs.Math.ListN.{set}
 use Rattle.std.specs.List.{list_any, position}
@@ -24,7 +25,8 @@ no_row (r ∷ rows) = no_row rows
 pub finish_nobody : (conn : Option ℕ) (ending : End) (rows : List Row) → conn ≡ None → EachBecomes (λ r s. FinishesIf (is_row conn r) ending r s) rows rows
 finish_nobody conn ending rows none = stay conn ending rows (ap (λ (o : Option ℕ). list_any (is_row o) rows) none ∙ no_row rows)
 
-pub finish_nowhere : (conn : Option ℕ) (c : ℕ) (ending : End) (rows : List Row) → conn ≡ Some c → position (has_number c) rows ≡ None → EachBecomes (λ r s. FinishesIf (is_row conn r) ending r s) rows rows
+pub finish_nowhere : (conn : Option ℕ) (c : ℕ) (ending : End) (rows : List Row) → conn ≡ Some c → position (has_number c) rows ≡ None
+    → EachBecomes (λ r s. FinishesIf (is_row conn r) ending r s) rows rows
 finish_nowhere conn c ending rows is none = stay conn ending rows (ap (λ (o : Option ℕ). list_any (is_row o) rows) is ∙ sym (position_any (has_number c) rows) ∙ ap is_some none)
 
 -- the first i rows are finished, and the others as they were
@@ -33,7 +35,8 @@ FinishedTo ending zero rows now = now ≡ rows
 FinishedTo ending (suc i) (r ∷ rows) (s ∷ now) = FinishesIf true ending r s × FinishedTo ending i rows now
 FinishedTo ending (suc i) rows now = ⊥
 
-pub finish_next : (ending : End) (i : ℕ) (rows now : List Row) (r s : Row) → i < length rows → FinishedTo ending i rows now → FinishesIf true ending (get_or now i r) s → FinishedTo ending (i + 1) rows (set now i s)
+pub finish_next : (ending : End) (i : ℕ) (rows now : List Row) (r s : Row) → i < length rows → FinishedTo ending i rows now → FinishesIf true ending (get_or now i r) s
+    → FinishedTo ending (i + 1) rows (set now i s)
 finish_next ending i rows now r s within h f = subst (λ k. FinishedTo ending k rows (set now i s)) (let e : suc i ≡ i + 1 = omega arith in e) (next i rows now within h f)
   where
     next : (i : ℕ) (rows now : List Row) → i < length rows → FinishedTo ending i rows now → FinishesIf true ending (get_or now i r) s → FinishedTo ending (suc i) rows (set now i s)

@@ -1,5 +1,7 @@
 -- Forwards, of a unicast or of a broadcast.
-use Rattle.std.proofs.Common.{◌≡◌, ℕ, ◌+◌, ◌<◌, ◌^◌, nat_lt, Bool, true, false, not, ◌&&◌, ◌||◌, cond, List, [], ◌∷◌, ◌++◌, length, map, filter, Option, Some, None, is_none, is_some, refl, ap, sym, ◌∙◌, arith}
+-- It serves clauses of functions of `desk` and `rows`.
+use Rattle.std.proofs.Common.{◌≡◌, ℕ, ◌+◌, ◌<◌, ◌^◌, nat_lt, Bool, true, false, not, ◌&&◌, ◌||◌, cond, List, [], ◌∷◌, ◌++◌, length, map, filter, Option, Some, None, is_none}
+use Rattle.std.proofs.Common.{is_some, refl, ap, sym, ◌∙◌, arith}
 use Rattle.std.specs.List.{flat_map, list_all}
 use Rattle.std.proofs.lemmas.Bool.{and_from, lt-ltb}
 use Rattle.std.proofs.lemmas.List.{map-append}
@@ -55,20 +57,26 @@ sends d S caller conn f p is =
       passes = ap (out f.message) (address_of_row d S caller conn f.sender p is);
     }
 
-may : (d : Desk) (S : List Stamped) (caller conn : ℕ) (f : Frame) → DeskStands d S → IsRowOf d caller conn f.sender → has_route f.message ≡ true → d.tally.made < d.about.limits.calls → (is_of (entries S) caller conn && has_route f.message && nat_lt (length (entries S)) d.about.limits.calls) ≡ true
+may : (d : Desk) (S : List Stamped) (caller conn : ℕ) (f : Frame) → DeskStands d S → IsRowOf d caller conn f.sender → has_route f.message ≡ true → d.tally.made < d.about.limits.calls
+    → (is_of (entries S) caller conn && has_route f.message && nat_lt (length (entries S)) d.about.limits.calls) ≡ true
 may d S caller conn f p is route calls =
     and_from (is_of (entries S) caller conn && has_route f.message) _ (and_from (is_of (entries S) caller conn) (has_route f.message) (sends d S caller conn f p is).mine route)
     (ap (λ (n : ℕ). nat_lt n d.about.limits.calls) (length_entries S ∙ sym p.entered) ∙ lt-ltb d.tally.made d.about.limits.calls calls)
 
 -- the hub goes on, and the sender is live
-pub serves : (d : Desk) (S : List Stamped) (caller conn : ℕ) (f : Frame) → DeskStands d S → IsRowOf d caller conn f.sender → d.stopped_at ≡ None → end_of d conn ≡ None → (is_stopped (entries S) ≡ false) × (ended (entries S) conn ≡ None)
+pub serves : (d : Desk) (S : List Stamped) (caller conn : ℕ) (f : Frame) → DeskStands d S → IsRowOf d caller conn f.sender → d.stopped_at ≡ None → end_of d conn ≡ None
+    → (is_stopped (entries S) ≡ false) × (ended (entries S) conn ≡ None)
 serves d S caller conn f p is on current = (sym (stopped_so d S p) ∙ ap is_some on, sym (sends d S caller conn f p is).ends ∙ current)
 
 -- the reply to a live sender's frame, whose octets are passed on as o
 abbrev pub served : About → List Entry → ℕ → List ℕ → List ℕ → List Look → Reply
 served a H conn m o looks = cond (is_broadcast m) (broadcast_reply a H o looks (meant H conn m)) (unicast_reply a H m o looks (holder H (destination m)))
 
-pub lawful_served : (d : Desk) (S : List Stamped) (caller conn : ℕ) (f : Frame) (looks : List Look) (reply : Reply) → DeskStands d S → IsRowOf d caller conn f.sender → has_route f.message ≡ true → d.tally.made < d.about.limits.calls → d.stopped_at ≡ None → end_of d conn ≡ None → reply ≡ served d.about (entries S) conn f.message (out f.message f.sender) looks → map (λ k. k.conn) looks ≡ numbers (filter (λ c. not (is_too_long (out f.message f.sender) c)) (meant (entries S) conn f.message)) → list_all (λ k. can_find d.about (entries S) k.conn k.taken) looks ≡ true → Lawful d.about (moment (entries S) (forward_entry caller conn f.message looks reply))
+pub lawful_served : (d : Desk) (S : List Stamped) (caller conn : ℕ) (f : Frame) (looks : List Look) (reply : Reply) → DeskStands d S → IsRowOf d caller conn f.sender
+    → has_route f.message ≡ true → d.tally.made < d.about.limits.calls → d.stopped_at ≡ None → end_of d conn ≡ None
+    → reply ≡ served d.about (entries S) conn f.message (out f.message f.sender) looks
+    → map (λ k. k.conn) looks ≡ numbers (filter (λ c. not (is_too_long (out f.message f.sender) c)) (meant (entries S) conn f.message))
+    → list_all (λ k. can_find d.about (entries S) k.conn k.taken) looks ≡ true → Lawful d.about (moment (entries S) (forward_entry caller conn f.message looks reply))
 unfolding forward_reply
 lawful_served d S caller conn f looks reply p is route calls on current says names_so can =
     let a = d.about in
@@ -80,14 +88,17 @@ lawful_served d S caller conn f looks reply p is route calls on current says nam
     let reply_by = λ (b : Bool) (w : Option End) (x : List ℕ). cond b Stopped (unless_ended w (served a H conn m x looks)) in
     let names_by = λ (b : Bool) (w : Option End) (x : List ℕ). cond (b || not (is_none w)) [] (numbers (filter (λ c. not (is_too_long x c)) (meant H conn m))) in
     record {
-      replied = says ∙ ap (λ (b : Bool). reply_by b None o) (sym two.0) ∙ ap (λ (w : Option End). reply_by (is_stopped H) w o) (sym two.1) ∙ ap (λ (x : List ℕ). reply_by (is_stopped H) (ended H conn) x) (sym passes);
-      named = names_so ∙ ap (λ (b : Bool). names_by b None o) (sym two.0) ∙ ap (λ (w : Option End). names_by (is_stopped H) w o) (sym two.1) ∙ ap (λ (x : List ℕ). names_by (is_stopped H) (ended H conn) x) (sym passes);
+      replied = says ∙ ap (λ (b : Bool). reply_by b None o) (sym two.0) ∙ ap (λ (w : Option End). reply_by (is_stopped H) w o) (sym two.1)
+          ∙ ap (λ (x : List ℕ). reply_by (is_stopped H) (ended H conn) x) (sym passes);
+      named = names_so ∙ ap (λ (b : Bool). names_by b None o) (sym two.0) ∙ ap (λ (w : Option End). names_by (is_stopped H) w o) (sym two.1)
+          ∙ ap (λ (x : List ℕ). names_by (is_stopped H) (ended H conn) x) (sym passes);
       found = can;
       called = may d S caller conn f p is route calls;
     }
 
 -- A frame that goes nowhere, as the hub has stopped or its sender has ended.
-pub lawful_unserved : (d : Desk) (S : List Stamped) (caller conn : ℕ) (f : Frame) (w : Option End) → DeskStands d S → IsRowOf d caller conn f.sender → has_route f.message ≡ true → d.tally.made < d.about.limits.calls → IsUnserved d conn w → Lawful d.about (moment (entries S) (forward_entry caller conn f.message [] (unserved w)))
+pub lawful_unserved : (d : Desk) (S : List Stamped) (caller conn : ℕ) (f : Frame) (w : Option End) → DeskStands d S → IsRowOf d caller conn f.sender → has_route f.message ≡ true
+    → d.tally.made < d.about.limits.calls → IsUnserved d conn w → Lawful d.about (moment (entries S) (forward_entry caller conn f.message [] (unserved w)))
 unfolding forward_reply
 lawful_unserved d S caller conn f None p is route calls idle =
     let H = entries S in
@@ -117,7 +128,10 @@ none_named : (w : Option End) (c : ℕ) → names c (unserved w) ≡ false
 none_named None c = refl
 none_named (Some e) c = refl
 
-pub stands_unserved : (d n : Desk) (S : List Stamped) (caller conn : ℕ) (f : Frame) (w : Option End) → DeskStands d S → IsRowOf d caller conn f.sender → has_route f.message ≡ true → d.tally.made < d.about.limits.calls → IsUnserved d conn w → n.about ≡ d.about → n.stopped_at ≡ d.stopped_at → n.tally.made ≡ d.tally.made + 1 → n.tally.counts ≡ plus d.tally.counts (counts_of (forward_entry caller conn f.message [] (unserved w))) → n.rows.items ≡ d.rows.items → DeskStands n (S ++ plain (forward_entry caller conn f.message [] (unserved w)) ∷ [])
+pub stands_unserved : (d n : Desk) (S : List Stamped) (caller conn : ℕ) (f : Frame) (w : Option End) → DeskStands d S → IsRowOf d caller conn f.sender → has_route f.message ≡ true
+    → d.tally.made < d.about.limits.calls → IsUnserved d conn w → n.about ≡ d.about → n.stopped_at ≡ d.stopped_at → n.tally.made ≡ d.tally.made + 1
+    → n.tally.counts ≡ plus d.tally.counts (counts_of (forward_entry caller conn f.message [] (unserved w))) → n.rows.items ≡ d.rows.items
+    → DeskStands n (S ++ plain (forward_entry caller conn f.message [] (unserved w)) ∷ [])
 stands_unserved d n S caller conn f w p is route calls idle about stop made count rows =
     let H = entries S in
     let e = forward_entry caller conn f.message [] (unserved w) in
@@ -133,7 +147,11 @@ stands_unserved d n S caller conn f w p is route calls idle about stop made coun
     ends_nobody (Some e) c = refl
 
 -- A frame that went through the rows makes its one entry.
-pub stands_sent : (d n : Desk) (S : List Stamped) (caller conn : ℕ) (f : Frame) (looks : List Look) (reply : Reply) (t : Row → Bool) (full : Option End) (fates : List Fate) → DeskStands d S → IsRowOf d caller conn f.sender → Lawful d.about (moment (entries S) (forward_entry caller conn f.message looks reply)) → ((r : Row) → t r ≡ true → is_open r ≡ true) → AllBefall t full (out f.message f.sender) d.rows.items fates n.rows.items → AllFates (λ r x. Told full reply looks (number r) x) d.rows.items fates → n.about ≡ d.about → n.stopped_at ≡ d.stopped_at → n.tally.made ≡ d.tally.made + 1 → n.tally.counts ≡ plus d.tally.counts (counts_of (forward_entry caller conn f.message looks reply)) → DeskStands n (S ++ plain (forward_entry caller conn f.message looks reply) ∷ [])
+pub stands_sent : (d n : Desk) (S : List Stamped) (caller conn : ℕ) (f : Frame) (looks : List Look) (reply : Reply) (t : Row → Bool) (full : Option End) (fates : List Fate) → DeskStands d S
+    → IsRowOf d caller conn f.sender → Lawful d.about (moment (entries S) (forward_entry caller conn f.message looks reply)) → ((r : Row) → t r ≡ true → is_open r ≡ true)
+    → AllBefall t full (out f.message f.sender) d.rows.items fates n.rows.items → AllFates (λ r x. Told full reply looks (number r) x) d.rows.items fates → n.about ≡ d.about
+    → n.stopped_at ≡ d.stopped_at → n.tally.made ≡ d.tally.made + 1 → n.tally.counts ≡ plus d.tally.counts (counts_of (forward_entry caller conn f.message looks reply))
+    → DeskStands n (S ++ plain (forward_entry caller conn f.message looks reply) ∷ [])
 stands_sent d n S caller conn f looks reply t full fates p is lawful opens all told about stop made count =
     let a = d.about in
     let H = entries S in
@@ -141,7 +159,8 @@ stands_sent d n S caller conn f looks reply t full fates p is lawful opens all t
     let e = forward_entry caller conn f.message looks reply in
     let passes = (sends d S caller conn f p is).passes in
     let adds = λ (c : ℕ). adds_as_named a H p.legal e conn f.message c lawful refl ∙ ap (λ (x : List ℕ). cond (names c reply) (x ∷ []) []) passes in
-    let each = each_fate t full o (RowGoes a H e) (λ r x. Told full reply looks (number r) x) (IsKept a S) d.rows.items fates n.rows.items (λ r x s k says h. goes a S caller conn f.message looks reply t full o opens r x s (adds (number r)) says h) (kept d S p) told all in
+    let each = each_fate t full o (RowGoes a H e) (λ r x. Told full reply looks (number r) x) (IsKept a S) d.rows.items fates n.rows.items
+    (λ r x s k says h. goes a S caller conn f.message looks reply t full o opens r x s (adds (number r)) says h) (kept d S p) told all in
     stands_on d n S (plain e) p lawful (record { goes_on = refl; stays = λ c. refl; joins_none = refl }) about stop made count each
 
 -- the connections that a frame means, of those that pass a test
@@ -164,12 +183,14 @@ picked-cons q p r rows =
     ]
 
 -- what fates add to a list is what a test picks, where it is so row by row
-pub picks : (q p : Connection → Bool) (f : Fate → List ℕ) (rows : List Row) (fates : List Fate) → AllFates (λ r x. f x ≡ cond ((is_open r && q (connection r)) && p (connection r)) (number r ∷ []) []) rows fates → flat_map f fates ≡ picked q p rows
+pub picks : (q p : Connection → Bool) (f : Fate → List ℕ) (rows : List Row) (fates : List Fate)
+    → AllFates (λ r x. f x ≡ cond ((is_open r && q (connection r)) && p (connection r)) (number r ∷ []) []) rows fates → flat_map f fates ≡ picked q p rows
 picks q p f [] [] all = refl
 picks q p f (r ∷ rows) (x ∷ fates) all =
     let rest = picks q p f rows fates all.1 in
     ap (λ (l : List ℕ). l ++ flat_map f fates) all.0
-    ∙ elim ((is_open r && q (connection r)) && p (connection r)) as (λ b. cond b (number r ∷ []) [] ++ flat_map f fates ≡ cond b (number r ∷ picked q p rows) (picked q p rows)) [ true ↦ ap (λ (l : List ℕ). number r ∷ l) rest | false ↦ rest ]
+    ∙ elim ((is_open r && q (connection r)) && p (connection r)) as (λ b. cond b (number r ∷ []) [] ++ flat_map f fates
+    ≡ cond b (number r ∷ picked q p rows) (picked q p rows)) [ true ↦ ap (λ (l : List ℕ). number r ∷ l) rest | false ↦ rest ]
     ∙ sym (picked-cons q p r rows)
 picks q p f rows fates all = absurd all
 
@@ -178,25 +199,31 @@ conns_of [] = refl
 conns_of (x ∷ fates) = map-append (λ (k : Look). k.conn) (looks_in x) (looks_of fates) ∙ ap (λ (l : List ℕ). map (λ (k : Look). k.conn) (looks_in x) ++ l) (conns_of fates)
 
 -- the looks are at those that the frame means and isn't too long for
-look_one : (q : Connection → Bool) (full : Option End) (o : List ℕ) (r : Row) (x : Fate) (s : Row) → Befalls (λ r. is_open r && q (connection r)) full o r x s → map (λ (k : Look). k.conn) (looks_in x) ≡ cond ((is_open r && q (connection r)) && not (is_too_long o (connection r))) (number r ∷ []) []
+look_one : (q : Connection → Bool) (full : Option End) (o : List ℕ) (r : Row) (x : Fate) (s : Row) → Befalls (λ r. is_open r && q (connection r)) full o r x s
+    → map (λ (k : Look). k.conn) (looks_in x) ≡ cond ((is_open r && q (connection r)) && not (is_too_long o (connection r))) (number r ∷ []) []
 look_one q full o r Unmeant s h = sym (ap (λ (b : Bool). cond (b && not (is_too_long o (connection r))) (number r ∷ []) []) h.0)
 look_one q full o r (TooLong c) s h = sym (ap (λ (b : Bool). cond (b && not (is_too_long o (connection r))) (number r ∷ []) []) h.0 ∙ ap (λ (b : Bool). cond (not b) (number r ∷ []) []) h.1.0)
-look_one q full o r (Entered k) s h = ap (λ (n : ℕ). n ∷ []) h.1.0.conn ∙ sym (ap (λ (b : Bool). cond (b && not (is_too_long o (connection r))) (number r ∷ []) []) h.0 ∙ ap (λ (b : Bool). cond (not b) (number r ∷ []) []) h.1.0.fits)
-look_one q full o r (FoundFull k) s h = ap (λ (n : ℕ). n ∷ []) h.1.0.conn ∙ sym (ap (λ (b : Bool). cond (b && not (is_too_long o (connection r))) (number r ∷ []) []) h.0 ∙ ap (λ (b : Bool). cond (not b) (number r ∷ []) []) h.1.0.fits)
+look_one q full o r (Entered k) s h = ap (λ (n : ℕ). n ∷ []) h.1.0.conn
+    ∙ sym (ap (λ (b : Bool). cond (b && not (is_too_long o (connection r))) (number r ∷ []) []) h.0 ∙ ap (λ (b : Bool). cond (not b) (number r ∷ []) []) h.1.0.fits)
+look_one q full o r (FoundFull k) s h = ap (λ (n : ℕ). n ∷ []) h.1.0.conn
+    ∙ sym (ap (λ (b : Bool). cond (b && not (is_too_long o (connection r))) (number r ∷ []) []) h.0 ∙ ap (λ (b : Bool). cond (not b) (number r ∷ []) []) h.1.0.fits)
 
 no_facts : (rows : List Row) (fates : List Fate) (after : List Row) (t : Row → Bool) (full : Option End) (o : List ℕ) → AllBefall t full o rows fates after → AllFates (λ r x. true ≡ true) rows fates
 no_facts [] [] [] t full o h = tt
 no_facts (r ∷ rows) (x ∷ fates) (s ∷ after) t full o h = (refl, no_facts rows fates after t full o h.1)
 no_facts rows fates after t full o h = absurd h
 
-pub looks_named : (d : Desk) (S : List Stamped) (conn : ℕ) (m o : List ℕ) (full : Option End) (fates : List Fate) (after : List Row) → DeskStands d S → AllBefall (λ r. is_open r && means m conn (connection r)) full o d.rows.items fates after → map (λ k. k.conn) (looks_of fates) ≡ numbers (filter (λ c. not (is_too_long o c)) (meant (entries S) conn m))
+pub looks_named : (d : Desk) (S : List Stamped) (conn : ℕ) (m o : List ℕ) (full : Option End) (fates : List Fate) (after : List Row) → DeskStands d S
+    → AllBefall (λ r. is_open r && means m conn (connection r)) full o d.rows.items fates after
+    → map (λ k. k.conn) (looks_of fates) ≡ numbers (filter (λ c. not (is_too_long o c)) (meant (entries S) conn m))
 looks_named d S conn m o full fates after p h =
     let q = means m conn in
     let t = λ (r : Row). is_open r && q (connection r) in
     let f = λ (x : Fate). map (λ (k : Look). k.conn) (looks_in x) in
     let U = λ (r : Row) (x : Fate). f x ≡ cond (t r && not (is_too_long o (connection r))) (number r ∷ []) [] in
     conns_of fates
-    ∙ picks q (λ c. not (is_too_long o c)) f d.rows.items fates (more_said t full o (IsKept d.about S) (λ r x. true ≡ true) U d.rows.items fates after (λ r x s k y z. look_one q full o r x s z) (kept d S p) (no_facts d.rows.items fates after t full o h) h)
+    ∙ picks q (λ c. not (is_too_long o c)) f d.rows.items fates (more_said t full o (IsKept d.about S) (λ r x. true ≡ true) U d.rows.items fates after
+    (λ r x s k y z. look_one q full o r x s z) (kept d S p) (no_facts d.rows.items fates after t full o h) h)
     ∙ ap (λ (l : List Connection). numbers (filter (λ c. not (is_too_long o c)) (filter q l))) (sym (live_rows d S p))
 
 -- a push more is possible at each ring

@@ -1,5 +1,7 @@
 -- A leave, a stop and a count.
-use Rattle.std.proofs.Common.{◌≡◌, ℕ, ◌+◌, ◌≤◌, ◌<◌, ◌==◌, nat_lt, Bool, true, false, not, cond, List, [], ◌∷◌, ◌++◌, length, map, filter, get_or, take, Option, Some, None, unwrap_or, is_some, refl, ap, sym, ◌∙◌, subst, arith, append-nil, length-append}
+-- It serves clauses of functions of `desk`.
+use Rattle.std.proofs.Common.{◌≡◌, ℕ, ◌+◌, ◌≤◌, ◌<◌, ◌==◌, nat_lt, Bool, true, false, not, cond, List, [], ◌∷◌, ◌++◌, length, map, filter, get_or, take, Option, Some, None}
+use Rattle.std.proofs.Common.{unwrap_or, is_some, refl, ap, sym, ◌∙◌, subst, arith, append-nil, length-append}
 use Rattle.std.specs.List.{position, remove, AllByRecursion}
 use Rattle.std.specs.Option.{option_or}
 use Rattle.std.proofs.Math.Seq.{take-append_seam}
@@ -47,7 +49,8 @@ module _ (d : Desk) (conn i : ℕ) (r : Row) (there : position (has_number conn)
   of_conn = eqb-true r.connection.number conn (subst (λ z. (z.connection.number == conn) ≡ true) (sym at) (position-Some (has_number conn) d.rows.items i r there).1)
 
   pub inlet_at : (S : List Stamped) → DeskStands d S → IsInletOf d.about S conn r.inlet
-  inlet_at S p = subst (λ k. IsInletOf d.about S k r.inlet) of_conn (all_at (λ x. IsInletOf d.about S x.connection.number x.inlet) d.rows.items i r (position-Some (has_number conn) d.rows.items i r there).0 at p.inlets)
+  inlet_at S p = subst (λ k. IsInletOf d.about S k r.inlet) of_conn (all_at (λ x. IsInletOf d.about S x.connection.number x.inlet) d.rows.items i r
+      (position-Some (has_number conn) d.rows.items i r there).0 at p.inlets)
 
   pub mark_at : (o : Outlet) → IsMarkOf d conn (outlet_mark o) → inlet_mark r.inlet ≡ outlet_mark o
   mark_at o marks = all_at (λ x. x.connection.number ≡ conn → inlet_mark x.inlet ≡ outlet_mark o) d.rows.items i r (position-Some (has_number conn) d.rows.items i r there).0 at marks of_conn
@@ -67,7 +70,8 @@ given_first d S conn t o is count =
     let rest = is.begins.0 in
     sym (ap (λ (l : List Item). take t l) is.begins.1 ∙ ap (λ k. take k (given o ++ rest)) count ∙ take-append_seam (given o) rest)
 
-pub lawful_leave : (d : Desk) (S : List Stamped) (caller conn empties : ℕ) (r : Row) (o : Outlet) (g : Gone) → DeskStands d S → IsRowBy d caller conn → IsInletOf d.about S conn r.inlet → IsOutletOf d.about (entries S) conn o → g.ending ≡ unwrap_or r.ending Left → g.taken ≡ length (given o) → Lawful d.about (moment (entries S) (leave_entry caller conn empties g))
+pub lawful_leave : (d : Desk) (S : List Stamped) (caller conn empties : ℕ) (r : Row) (o : Outlet) (g : Gone) → DeskStands d S → IsRowBy d caller conn → IsInletOf d.about S conn r.inlet
+    → IsOutletOf d.about (entries S) conn o → g.ending ≡ unwrap_or r.ending Left → g.taken ≡ length (given o) → Lawful d.about (moment (entries S) (leave_entry caller conn empties g))
 lawful_leave d S caller conn empties r o g p is its out ending taken =
     let a = d.about in
     let H = entries S in
@@ -83,7 +87,8 @@ lawful_leave d S caller conn empties r o g p is its out ending taken =
     }
 
 -- the rows that stay
-left_all : (d : Desk) (S : List Stamped) (caller conn empties : ℕ) (g : Gone) (rows : List Row) → AllByRecursion (IsKept d.about S) rows → AllByRecursion (λ r. IsInletOf d.about (S ++ plain (leave_entry caller conn empties g) ∷ []) r.connection.number r.inlet) (filter (λ r. not (r.connection.number == conn)) rows)
+left_all : (d : Desk) (S : List Stamped) (caller conn empties : ℕ) (g : Gone) (rows : List Row) → AllByRecursion (IsKept d.about S) rows
+    → AllByRecursion (λ r. IsInletOf d.about (S ++ plain (leave_entry caller conn empties g) ∷ []) r.connection.number r.inlet) (filter (λ r. not (r.connection.number == conn)) rows)
 unfolding added_by
 left_all d S caller conn empties g [] all = tt
 left_all d S caller conn empties g (r ∷ rows) all =
@@ -92,9 +97,17 @@ left_all d S caller conn empties g (r ∷ rows) all =
     let Q = λ (x : Row). IsInletOf a (S ++ s ∷ []) x.connection.number x.inlet in
     let F = filter (λ (x : Row). not (x.connection.number == conn)) rows in
     let rest = left_all d S caller conn empties g rows all.1 in
-    let by : (b : Bool) → (r.connection.number == conn) ≡ b → AllByRecursion Q (cond (not b) (r ∷ F) F) = λ b. elim b as (λ b. (r.connection.number == conn) ≡ b → AllByRecursion Q (cond (not b) (r ∷ F) F)) [
+    let by : (b : Bool) → (r.connection.number == conn) ≡ b → AllByRecursion Q (cond (not b) (r ∷ F) F) =
+    λ b. elim b as (λ b. (r.connection.number == conn) ≡ b → AllByRecursion Q (cond (not b) (r ∷ F) F)) [
       | true ↦ λ e. rest
-      | false ↦ λ e. (goes_one a S s r r all.0 (refl, follows_same a (entries S) s.entry r.connection.number r.inlet refl refl (ap (λ (b : Bool). option_or (cond b (Some Left) None) None) (eqb_comm conn r.connection.number ∙ e))), rest)
+      | false ↦ λ e. (
+        goes_one a S s r r all.0 (
+          refl,
+          follows_same a (entries S) s.entry r.connection.number r.inlet refl refl
+              (ap (λ (b : Bool). option_or (cond b (Some Left) None) None) (eqb_comm conn r.connection.number ∙ e)),
+        ),
+        rest,
+      )
     ] in
     by (r.connection.number == conn) refl
 
@@ -106,7 +119,9 @@ commuted conn (x ∷ xs) =
     ap (λ (b : Bool). cond (not b) (x ∷ A) A) (eqb_comm x.number conn)
     ∙ elim (conn == x.number) as (λ b. cond (not b) (x ∷ A) A ≡ cond (not b) (x ∷ B) B ++ []) [ true ↦ commuted conn xs | false ↦ ap (λ (l : List Connection). x ∷ l) (commuted conn xs) ]
 
-pub stands_left : (d n : Desk) (S : List Stamped) (caller conn empties i : ℕ) (r : Row) (g : Gone) → DeskStands d S → Lawful d.about (moment (entries S) (leave_entry caller conn empties g)) → position (has_number conn) d.rows.items ≡ Some i → n.about ≡ d.about → n.stopped_at ≡ d.stopped_at → n.tally.made ≡ d.tally.made + 1 → n.tally.counts ≡ plus d.tally.counts no_counts → n.rows.items ≡ remove d.rows.items i → DeskStands n (S ++ plain (leave_entry caller conn empties g) ∷ [])
+pub stands_left : (d n : Desk) (S : List Stamped) (caller conn empties i : ℕ) (r : Row) (g : Gone) → DeskStands d S → Lawful d.about (moment (entries S) (leave_entry caller conn empties g))
+    → position (has_number conn) d.rows.items ≡ Some i → n.about ≡ d.about → n.stopped_at ≡ d.stopped_at → n.tally.made ≡ d.tally.made + 1 → n.tally.counts ≡ plus d.tally.counts no_counts
+    → n.rows.items ≡ remove d.rows.items i → DeskStands n (S ++ plain (leave_entry caller conn empties g) ∷ [])
 stands_left d n S caller conn empties i r g p lawful there about stop made count rows =
     let s = plain (leave_entry caller conn empties g) in
     let out = rows ∙ removed conn i r d.rows.items there (rows_apart d S p) in
@@ -117,7 +132,8 @@ stands_left d n S caller conn empties i r g p lawful there about stop made count
       count = count;
       rows = ap (map connection) out ∙ connections-kept conn d.rows.items ∙ commuted conn (map connection d.rows.items);
     } in
-    stands_more d n S s p lawful keeps (subst (AllByRecursion (λ r. IsInletOf d.about (S ++ s ∷ []) r.connection.number r.inlet)) (sym out) (left_all d S caller conn empties g d.rows.items (kept d S p)))
+    stands_more d n S s p lawful keeps (subst (AllByRecursion (λ r. IsInletOf d.about (S ++ s ∷ []) r.connection.number r.inlet)) (sym out)
+    (left_all d S caller conn empties g d.rows.items (kept d S p)))
 
 -- a stop
 
@@ -142,7 +158,9 @@ stop_one d H caller k r t f = (
   },
 )
 
-pub stands_stopped : (d n : Desk) (S : List Stamped) (caller : ℕ) → DeskStands d S → d.stopped_at ≡ None → n.about ≡ d.about → n.stopped_at ≡ Some d.tally.made → n.tally.made ≡ d.tally.made + 1 → n.tally.counts ≡ plus d.tally.counts no_counts → EachBecomes (λ r t. FinishesIf true Stopped r t) d.rows.items n.rows.items → DeskStands n (S ++ plain (stop_entry caller d.tally.counts) ∷ [])
+pub stands_stopped : (d n : Desk) (S : List Stamped) (caller : ℕ) → DeskStands d S → d.stopped_at ≡ None → n.about ≡ d.about → n.stopped_at ≡ Some d.tally.made
+    → n.tally.made ≡ d.tally.made + 1 → n.tally.counts ≡ plus d.tally.counts no_counts → EachBecomes (λ r t. FinishesIf true Stopped r t) d.rows.items n.rows.items
+    → DeskStands n (S ++ plain (stop_entry caller d.tally.counts) ∷ [])
 stands_stopped d n S caller p none about stop made count each =
     let s = plain (stop_entry caller d.tally.counts) in
     let goes = each_weaker (λ r t. FinishesIf true Stopped r t) (RowGoes d.about (entries S) s.entry) d.rows.items n.rows.items (stop_one d (entries S) caller d.tally.counts) each in
@@ -169,10 +187,12 @@ lawful_count d S caller p calls = record {
   called = ap (λ (n : ℕ). nat_lt n d.about.limits.calls) (length_entries S ∙ sym p.entered) ∙ lt-ltb d.tally.made d.about.limits.calls calls;
 }
 
-pub stands_counted : (d n : Desk) (S : List Stamped) (caller : ℕ) → DeskStands d S → d.tally.made < d.about.limits.calls → n.about ≡ d.about → n.stopped_at ≡ d.stopped_at → n.tally.made ≡ d.tally.made + 1 → n.tally.counts ≡ plus d.tally.counts no_counts → n.rows.items ≡ d.rows.items → DeskStands n (S ++ plain (count_entry caller d.tally.counts) ∷ [])
+pub stands_counted : (d n : Desk) (S : List Stamped) (caller : ℕ) → DeskStands d S → d.tally.made < d.about.limits.calls → n.about ≡ d.about → n.stopped_at ≡ d.stopped_at
+    → n.tally.made ≡ d.tally.made + 1 → n.tally.counts ≡ plus d.tally.counts no_counts → n.rows.items ≡ d.rows.items → DeskStands n (S ++ plain (count_entry caller d.tally.counts) ∷ [])
 unfolding added_by
 stands_counted d n S caller p calls about stop made count rows =
-    stands_same d n S (plain (count_entry caller d.tally.counts)) p (lawful_count d S caller p calls) (record { goes_on = refl; stays = λ c. refl; joins_none = refl }) (record { ends_none = λ c. refl; looks_none = refl; adds_nothing = λ c. refl }) about stop made count rows
+    stands_same d n S (plain (count_entry caller d.tally.counts)) p (lawful_count d S caller p calls) (record { goes_on = refl; stays = λ c. refl; joins_none = refl })
+    (record { ends_none = λ c. refl; looks_none = refl; adds_nothing = λ c. refl }) about stop made count rows
 
 pub stopped_before : (d : Desk) (S : List Stamped) (place : ℕ) → DeskStands d S → d.stopped_at ≡ Some place → is_stopped (entries S) ≡ true
 stopped_before d S place p at = sym (stopped_so d S p) ∙ ap is_some at

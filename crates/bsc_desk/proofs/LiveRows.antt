@@ -1,5 +1,7 @@
 -- The live connections are those of the open rows.
-use Rattle.std.proofs.Common.{◌≡◌, ◌≢◌, inl, inr, ◌==◌, ℕ, Bool, true, false, ◌&&◌, ◌||◌, cond, List, [], ◌∷◌, map, filter, find, is_some, Option, Some, None, is_none, MatchOption, refl, ap, sym, ◌∙◌, subst}
+-- It serves clauses of functions of `connecting`, `desk` and `rows`.
+use Rattle.std.proofs.Common.{◌≡◌, ◌≢◌, inl, inr, ◌==◌, ℕ, Bool, true, false, ◌&&◌, ◌||◌, cond, List, [], ◌∷◌, map, filter, find, is_some, Option, Some, None, is_none, MatchOption}
+use Rattle.std.proofs.Common.{refl, ap, sym, ◌∙◌, subst}
 use Rattle.std.specs.List.{list_any, position, AllByRecursion}
 use Rattle.std.specs.Option.{option_map}
 use Rattle.std.proofs.lemmas.Bool.{and_parts, both_ways, eqb-true, eq-eqb, ne_eqb, or_cases, or_left, or_right}
@@ -31,14 +33,16 @@ use Rattle.bsc_octets.proofs.Common.{vmac_same}
 pub row_end : (a : About) (S : List Stamped) (r : Row) → IsInletOf a S r.connection.number r.inlet → r.ending ≡ ended (entries S) r.connection.number
 row_end a S r p = sym r.tied ∙ p.finished
 
-open_rows : (a : About) (S : List Stamped) (rows : List Row) → AllByRecursion (λ r. IsInletOf a S r.connection.number r.inlet) rows → filter (λ x. is_none (ended (entries S) x.number)) (map connection rows) ≡ map connection (filter is_open rows)
+open_rows : (a : About) (S : List Stamped) (rows : List Row) → AllByRecursion (λ r. IsInletOf a S r.connection.number r.inlet) rows
+    → filter (λ x. is_none (ended (entries S) x.number)) (map connection rows) ≡ map connection (filter is_open rows)
 open_rows a S [] all = refl
 open_rows a S (r ∷ rows) all =
     let rest = open_rows a S rows all.1 in
     let E = λ (x : Connection). is_none (ended (entries S) x.number) in
     let same : E (connection r) ≡ is_open r = ap is_none (sym (row_end a S r all.0)) in
     ap (λ (b : Bool). cond b (connection r ∷ filter E (map connection rows)) (filter E (map connection rows))) same
-    ∙ elim (is_open r) as (λ b. cond b (connection r ∷ filter E (map connection rows)) (filter E (map connection rows)) ≡ map connection (cond b (r ∷ filter is_open rows) (filter is_open rows))) [ true ↦ ap (λ (l : List Connection). connection r ∷ l) rest | false ↦ rest ]
+    ∙ elim (is_open r) as (λ b. cond b (connection r ∷ filter E (map connection rows)) (filter E (map connection rows))
+    ≡ map connection (cond b (r ∷ filter is_open rows) (filter is_open rows))) [ true ↦ ap (λ (l : List Connection). connection r ∷ l) rest | false ↦ rest ]
 
 pub live_rows : (d : Desk) (S : List Stamped) → DeskStands d S → live (entries S) ≡ map connection (filter is_open d.rows.items)
 live_rows d S p = live_unended d.about (entries S) p.legal ∙ ap (filter (λ x. is_none (ended (entries S) x.number))) (sym p.unleft_rows) ∙ open_rows d.about S d.rows.items p.inlets
@@ -46,8 +50,10 @@ live_rows d S p = live_unended d.about (entries S) p.legal ∙ ap (filter (λ x.
 find_open : (p : Connection → Bool) (rows : List Row) → find p (map connection (filter is_open rows)) ≡ option_map connection (find (λ r. is_open r && p (connection r)) rows)
 find_open p [] = refl
 find_open p (r ∷ rows) =
-    elim (is_open r) as (λ b. find p (map connection (cond b (r ∷ filter is_open rows) (filter is_open rows))) ≡ option_map connection (cond (b && p (connection r)) (Some r) (find (λ x. is_open x && p (connection x)) rows))) [
-      | true ↦ elim (p (connection r)) as (λ b. cond b (Some (connection r)) (find p (map connection (filter is_open rows))) ≡ option_map connection (cond b (Some r) (find (λ x. is_open x && p (connection x)) rows))) [ true ↦ refl | false ↦ find_open p rows ]
+    elim (is_open r) as (λ b. find p (map connection (cond b (r ∷ filter is_open rows) (filter is_open rows)))
+    ≡ option_map connection (cond (b && p (connection r)) (Some r) (find (λ x. is_open x && p (connection x)) rows))) [
+      | true ↦ elim (p (connection r)) as (λ b. cond b (Some (connection r)) (find p (map connection (filter is_open rows)))
+          ≡ option_map connection (cond b (Some r) (find (λ x. is_open x && p (connection x)) rows))) [ true ↦ refl | false ↦ find_open p rows ]
       | false ↦ find_open p rows
     ]
 
@@ -74,7 +80,8 @@ pub record Finds (p : Row → Bool) (rows : List Row) (r : Row) : Type 0 where
 
 pub finds : (p : Row → Bool) (rows : List Row) → list_any p rows ≡ true → (r : Row) × Finds p rows r
 finds p rows any =
-    let on : (o : Option Row) → find p rows ≡ o → MatchOption o ((x : Row) → In x rows → p x ≡ false) (λ x. In x rows × (p x ≡ true)) → (r : Row) × Finds p rows r = λ o. elim o as (λ o. find p rows ≡ o → MatchOption o ((x : Row) → In x rows → p x ≡ false) (λ x. In x rows × (p x ≡ true)) → (r : Row) × Finds p rows r) [
+    let on : (o : Option Row) → find p rows ≡ o → MatchOption o ((x : Row) → In x rows → p x ≡ false) (λ x. In x rows × (p x ≡ true)) → (r : Row)
+    × Finds p rows r = λ o. elim o as (λ o. find p rows ≡ o → MatchOption o ((x : Row) → In x rows → p x ≡ false) (λ x. In x rows × (p x ≡ true)) → (r : Row) × Finds p rows r) [
       | None ↦ λ e no. absurd (both_ways (list_any p rows) (none_passes p rows no) any)
       | Some r ↦ λ e it. (r, record { found = e; among = it.0; passes = it.1 })
     ] in
@@ -119,11 +126,14 @@ weaker t u (r ∷ rows) f h = elim (or_cases (t r) (list_any t rows) h) [ inl he
 
 -- a row of the caller with the address is one of the caller
 pub by_of : (d : Desk) (caller conn : ℕ) (v : Vmac) → IsRowOf d caller conn v → IsRowBy d caller conn
-by_of d caller conn v is = weaker (λ r. (r.connection.number == conn) && (r.connection.caller == caller) && same_vmac r.connection.who.vmac v) (λ r. (r.connection.number == conn) && (r.connection.caller == caller)) d.rows.items (λ r h. (and_parts ((r.connection.number == conn) && (r.connection.caller == caller)) (same_vmac r.connection.who.vmac v) h).0) is
+by_of d caller conn v is = weaker (λ r. (r.connection.number == conn) && (r.connection.caller == caller) && same_vmac r.connection.who.vmac v)
+    (λ r. (r.connection.number == conn) && (r.connection.caller == caller)) d.rows.items
+    (λ r h. (and_parts ((r.connection.number == conn) && (r.connection.caller == caller)) (same_vmac r.connection.who.vmac v) h).0) is
 
 -- and a row, which has a place
 pub has_by : (d : Desk) (caller conn : ℕ) → IsRowBy d caller conn → list_any (has_number conn) d.rows.items ≡ true
-has_by d caller conn is = weaker (λ r. (r.connection.number == conn) && (r.connection.caller == caller)) (has_number conn) d.rows.items (λ r h. (and_parts (r.connection.number == conn) (r.connection.caller == caller) h).0) is
+has_by d caller conn is = weaker (λ r. (r.connection.number == conn) && (r.connection.caller == caller)) (has_number conn) d.rows.items
+    (λ r h. (and_parts (r.connection.number == conn) (r.connection.caller == caller) h).0) is
 
 -- the sender of a frame joined with its address
 pub address_of_row : (d : Desk) (S : List Stamped) (caller conn : ℕ) (v : Vmac) → DeskStands d S → IsRowOf d caller conn v → vmac_of (entries S) conn ≡ v

@@ -1,4 +1,5 @@
 -- An outlet that meets the desk.
+-- It serves the clauses of `caller_of` and `meet_at`.
 use Rattle.std.proofs.Common.{◌≡◌, ◌≢◌, ℕ, zero, suc, ◌<◌, ◌==◌, ◌&&◌, Bool, true, false, cond, List, [], ◌∷◌, length, find, get_or, is_none, Option, Some, is_some, refl, ap, sym, ◌∙◌, subst, arith}
 use Rattle.std.proofs.Math.ListN.{set}
 use Rattle.std.specs.List.{list_any, position, AllByRecursion}
@@ -41,7 +42,8 @@ inlet_same a S r s p h = subst (λ n. IsInletOf a S n s.inlet) (sym (ap (λ (k :
   finished = s.tied ∙ h.ends ∙ sym r.tied ∙ p.finished;
 })
 
-pub stands_met : (d n : Desk) (S : List Stamped) → DeskStands d S → n.about ≡ d.about → n.stopped_at ≡ d.stopped_at → n.tally ≡ d.tally → EachBecomes IsSameRow d.rows.items n.rows.items → DeskStands n S
+pub stands_met : (d n : Desk) (S : List Stamped) → DeskStands d S → n.about ≡ d.about → n.stopped_at ≡ d.stopped_at → n.tally ≡ d.tally → EachBecomes IsSameRow d.rows.items n.rows.items
+    → DeskStands n S
 stands_met d n S p about stop tally each = record {
   legal = subst (λ b. Legal b (entries S)) (sym about) p.legal;
   stop_place = stop ∙ p.stop_place;
@@ -49,17 +51,20 @@ stands_met d n S p about stop tally each = record {
   counted = ap (λ (t : Tally). t.counts) tally ∙ p.counted;
   unleft_rows = each_connections IsSameRow d.rows.items n.rows.items (λ r s h. h.same) each ∙ p.unleft_rows;
   inlets = subst (λ b. AllByRecursion (λ r. IsInletOf b S r.connection.number r.inlet) n.rows.items) (sym about)
-      (each_all IsSameRow (λ r. IsInletOf d.about S r.connection.number r.inlet) (λ r. IsInletOf d.about S r.connection.number r.inlet) d.rows.items n.rows.items (λ r s q h. inlet_same d.about S r s q h) p.inlets each);
+      (each_all IsSameRow (λ r. IsInletOf d.about S r.connection.number r.inlet) (λ r. IsInletOf d.about S r.connection.number r.inlet) d.rows.items n.rows.items
+      (λ r s q h. inlet_same d.about S r s q h) p.inlets each);
 }
 
 -- look-ups after it
 
-set_here : (c i : ℕ) (rows : List Row) (r s : Row) → i < length rows → r ≡ get_or rows i r → has_number c r ≡ true → ((k : ℕ) → k < i → has_number c (get_or rows k r) ≡ false) → s.connection ≡ r.connection → find (has_number c) (set rows i s) ≡ Some s
+set_here : (c i : ℕ) (rows : List Row) (r s : Row) → i < length rows → r ≡ get_or rows i r → has_number c r ≡ true → ((k : ℕ) → k < i → has_number c (get_or rows k r) ≡ false)
+    → s.connection ≡ r.connection → find (has_number c) (set rows i s) ≡ Some s
 set_here c i [] r s within at here before same = absurd (omega arith)
 set_here c zero (x ∷ rows) r s within at here before same = (let yes : has_number c s ≡ true = ap (λ (k : Connection). k.number == c) same ∙ here in rw yes refl)
 set_here c (suc i) (x ∷ rows) r s within at here before same = rw (before 0 (omega arith)) (set_here c i rows r s (omega arith) at here (λ k h. before (suc k) (omega arith)) same)
 
-set_other : (k i : ℕ) (rows : List Row) (r s : Row) → i < length rows → r ≡ get_or rows i r → r.connection.number ≢ k → s.connection ≡ r.connection → find (has_number k) (set rows i s) ≡ find (has_number k) rows
+set_other : (k i : ℕ) (rows : List Row) (r s : Row) → i < length rows → r ≡ get_or rows i r → r.connection.number ≢ k → s.connection ≡ r.connection
+    → find (has_number k) (set rows i s) ≡ find (has_number k) rows
 set_other k i [] r s within at other same = absurd (omega arith)
 set_other k zero (x ∷ rows) r s within at other same =
     let no : has_number k s ≡ false = ap (λ (c : Connection). c.number == k) same ∙ ne_eqb r.connection.number k other in
@@ -70,7 +75,8 @@ set_other k (suc i) (x ∷ rows) r s within at other same = ap (λ (o : Option R
 pub found_set : (c i : ℕ) (rows : List Row) (r s : Row) → position (has_number c) rows ≡ Some i → r ≡ get_or rows i r → s.connection ≡ r.connection → find (has_number c) (set rows i s) ≡ Some s
 found_set c i rows r s place at same = let p = position-Some (has_number c) rows i r place in set_here c i rows r s p.0 at (subst (λ z. has_number c z ≡ true) (sym at) p.1) p.2 same
 
-pub found_other : (c k i : ℕ) (rows : List Row) (r s : Row) → position (has_number c) rows ≡ Some i → r ≡ get_or rows i r → s.connection ≡ r.connection → k ≢ c → find (has_number k) (set rows i s) ≡ find (has_number k) rows
+pub found_other : (c k i : ℕ) (rows : List Row) (r s : Row) → position (has_number c) rows ≡ Some i → r ≡ get_or rows i r → s.connection ≡ r.connection → k ≢ c
+    → find (has_number k) (set rows i s) ≡ find (has_number k) rows
 found_other c k i rows r s place at same other =
     let p = position-Some (has_number c) rows i r place in
     let here : has_number c r ≡ true = subst (λ z. has_number c z ≡ true) (sym at) p.1 in
@@ -94,8 +100,10 @@ any_at t (x ∷ rows) zero r within at h = or_left (t x) (list_any t rows) (subs
 any_at t (x ∷ rows) (suc i) r within at h = or_right (t x) (list_any t rows) (any_at t rows i r (omega arith) at h)
 
 -- what stands at the place of a connection is the row of its caller
-pub row_by : (c i : ℕ) (rows : List Row) (r : Row) → position (has_number c) rows ≡ Some i → r ≡ get_or rows i r → list_any (λ s. (s.connection.number == c) && (s.connection.caller == r.connection.caller)) rows ≡ true
+pub row_by : (c i : ℕ) (rows : List Row) (r : Row) → position (has_number c) rows ≡ Some i → r ≡ get_or rows i r
+    → list_any (λ s. (s.connection.number == c) && (s.connection.caller == r.connection.caller)) rows ≡ true
 row_by c i rows r place at =
     let p = position-Some (has_number c) rows i r place in
     let here : has_number c r ≡ true = subst (λ z. has_number c z ≡ true) (sym at) p.1 in
-    any_at (λ s. (s.connection.number == c) && (s.connection.caller == r.connection.caller)) rows i r p.0 at (and_from (r.connection.number == c) (r.connection.caller == r.connection.caller) here (eq-eqb r.connection.caller r.connection.caller refl))
+    any_at (λ s. (s.connection.number == c) && (s.connection.caller == r.connection.caller)) rows i r p.0 at
+    (and_from (r.connection.number == c) (r.connection.caller == r.connection.caller) here (eq-eqb r.connection.caller r.connection.caller refl))

@@ -1,5 +1,7 @@
 -- Rows in the order of their numbers, searched by a number.
-use Rattle.std.proofs.Common.{◌≡◌, ◌≢◌, ◌<◌, ◌≤◌, ◌+◌, ◌==◌, inl, inr, ℕ, zero, suc, Bool, true, false, cond, List, [], ◌∷◌, length, map, find, get_or, Option, Some, None, Result, Ok, Err, refl, ap, sym, ◌∙◌, arith}
+-- It serves clauses of functions of `connecting`, `desk` and `rows`.
+use Rattle.std.proofs.Common.{◌≡◌, ◌≢◌, ◌<◌, ◌≤◌, ◌+◌, ◌==◌, inl, inr, ℕ, zero, suc, Bool, true, false, cond, List, [], ◌∷◌, length, map, find, get_or, Option, Some, None, Result}
+use Rattle.std.proofs.Common.{Ok, Err, refl, ap, sym, ◌∙◌, arith}
 use Rattle.std.specs.List.{position}
 use Rattle.std.specs.List.Sorted.{IsSearchInRange, IsBinarySearchResult, IsNonDecreasingBy}
 use Rattle.std.specs.Ordering.{nat_cmp, ordering_index}
@@ -48,7 +50,8 @@ other_number conn (r ∷ rows) none =
 
 pub at_place : (conn : ℕ) (rows : List Row) (i : ℕ) → InOrder Rises rows → i < length rows → ((d : Row) → (get_or rows i d).connection.number ≡ conn) → position (has_number conn) rows ≡ Some i
 at_place conn [] i order within here = absurd (omega arith)
-at_place conn (r ∷ rows) zero order within here = position-cons (has_number conn) r rows ∙ ap (λ (b : Bool). cond b (Some 0) (option_map (λ i. 1 + i) (position (has_number conn) rows))) (eq-eqb r.connection.number conn (here r))
+at_place conn (r ∷ rows) zero order within here = position-cons (has_number conn) r rows
+    ∙ ap (λ (b : Bool). cond b (Some 0) (option_map (λ i. 1 + i) (position (has_number conn) rows))) (eq-eqb r.connection.number conn (here r))
 at_place conn (r ∷ rows) (suc i) order within here =
     let less = below r (get_or rows i r) (order-at Rises (r ∷ rows) 0 (suc i) r order (omega arith) within) in
     let same = here r in
@@ -58,7 +61,8 @@ at_place conn (r ∷ rows) (suc i) order within here =
     ∙ (let e : 1 + i ≡ suc i = omega arith in ap Some e)
 
 -- a search by a number ends at its first place
-pub searched : (conn : ℕ) (rows : List Row) (r : Result ℕ ℕ) → in_order rises rows ≡ true → IsSearchInRange r (length rows) → IsBinarySearchResult (λ x. nat_cmp x.connection.number conn) rows r → result_ok r ≡ position (has_number conn) rows
+pub searched : (conn : ℕ) (rows : List Row) (r : Result ℕ ℕ) → in_order rises rows ≡ true → IsSearchInRange r (length rows)
+    → IsBinarySearchResult (λ x. nat_cmp x.connection.number conn) rows r → result_ok r ≡ position (has_number conn) rows
 searched conn rows (Ok i) order within equal = sym (at_place conn rows i (order_true rises rows order) within (λ d. ranked (get_or rows i d).connection.number conn _ (sym (equal d))))
 searched conn rows (Err i) order within parts =
     let split = parts (comparisons_rise conn rows (order_true rises rows order)) in

@@ -1,4 +1,5 @@
 -- Lists in an order, and the order of octets.
+-- It serves clauses of functions of `connecting`, `desk`, `directory` and `rows`.
 use Rattle.std.proofs.Common.{◌≡◌, ◌<◌, ℕ, zero, suc, Bool, true, false, cond, List, [], ◌∷◌, ◌++◌, length, map, filter, get_or, refl, ap, sym, ◌∙◌, arith}
 use Rattle.std.specs.Bool.{⊤}
 use Rattle.std.specs.List.{AllByRecursion, list_all}
@@ -52,7 +53,8 @@ true_order r (x ∷ xs) h = and_from (list_all (r x) xs) (in_order r xs) (true_a
 
 pub order-filter : {A : Type 0} (R : A → A → Type 0) (q : A → Bool) (xs : List A) → InOrder R xs → InOrder R (filter q xs)
 order-filter R q [] order = tt
-order-filter R q (x ∷ xs) order = let rest = order-filter R q xs order.1 in elim (q x) as (λ b. InOrder R (cond b (x ∷ filter q xs) (filter q xs))) [ true ↦ (all-filter (R x) q xs order.0, rest) | false ↦ rest ]
+order-filter R q (x ∷ xs) order = let rest = order-filter R q xs order.1 in
+    elim (q x) as (λ b. InOrder R (cond b (x ∷ filter q xs) (filter q xs))) [ true ↦ (all-filter (R x) q xs order.0, rest) | false ↦ rest ]
 
 pub order-push : {A : Type 0} (R : A → A → Type 0) (xs : List A) (y : A) → InOrder R xs → AllByRecursion (λ x. R x y) xs → InOrder R (xs ++ y ∷ [])
 order-push R [] y order all = (tt, tt)

@@ -1,4 +1,5 @@
 -- A prepared frame gives back the message that it was made of.
+-- It serves the clauses of `prepare`.
 use Rattle.std.proofs.Common.{◌≡◌, ◌≤◌, ◌+◌, ℕ, Bool, true, false, cond, IsTrue, List, [], ◌∷◌, ◌++◌, length, take, drop, refl, ap, sym, ◌∙◌, arith, length-append, length-drop, append_assoc}
 use Rattle.std.proofs.lemmas.List.{drop-take, take-append-drop, length-take, take-take}
 use Rattle.std.proofs.Math.Seq.{drop-append_seam, take-append_seam}
@@ -41,7 +42,8 @@ unfolding out header
 message_back m v long six =
     let front = (header m ++ v.0) ++ kept m in
     let n = cond (is_broadcast m) 16 10 in
-    let here : length front ≡ n = length-append (header m ++ v.0) (kept m) ∙ ap (λ (k : ℕ). k + length (kept m)) (length-append (header m) v.0 ∙ ap (λ (k : ℕ). k + length v.0) (length-header m long) ∙ ap (λ (k : ℕ). 4 + k) six) ∙ length-kept m in
+    let here : length front ≡ n = length-append (header m ++ v.0) (kept m)
+    ∙ ap (λ (k : ℕ). k + length (kept m)) (length-append (header m) v.0 ∙ ap (λ (k : ℕ). k + length v.0) (length-header m long) ∙ ap (λ (k : ℕ). 4 + k) six) ∙ length-kept m in
     ap (λ (b : Bool). take 10 m ++ drop (cond b 16 10) (out m v)) (same_broadcast m)
     ∙ ap (λ (l : List ℕ). take 10 m ++ l) (drop_front n front (after_destination m) here)
     ∙ take-append-drop 10 m

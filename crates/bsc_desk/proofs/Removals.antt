@@ -1,4 +1,5 @@
 -- Rows of which one is taken out.
+-- It serves clauses of functions of `desk` and `rows`.
 use Rattle.std.proofs.Common.{◌≡◌, ◌≢◌, ℕ, zero, suc, ◌==◌, Bool, true, false, not, cond, List, [], ◌∷◌, map, filter, find, Option, Some, None, refl, ap, sym, ◌∙◌}
 use Rattle.std.specs.List.{position, remove, AllByRecursion}
 use Rattle.std.proofs.lemmas.Bool.{eqb-true, ne_eqb}
@@ -34,7 +35,8 @@ find_gone conn [] = refl
 find_gone conn (r ∷ rows) =
     let rest = find_gone conn rows in
     let A = filter (λ (x : Row). not (x.connection.number == conn)) rows in
-    let by : (b : Bool) → (r.connection.number == conn) ≡ b → find (has_number conn) (cond (not b) (r ∷ A) A) ≡ None = λ b. elim b as (λ b. (r.connection.number == conn) ≡ b → find (has_number conn) (cond (not b) (r ∷ A) A) ≡ None) [ true ↦ λ e. rest | false ↦ λ e. rw e rest ] in
+    let by : (b : Bool) → (r.connection.number == conn) ≡ b → find (has_number conn) (cond (not b) (r ∷ A) A) ≡ None =
+    λ b. elim b as (λ b. (r.connection.number == conn) ≡ b → find (has_number conn) (cond (not b) (r ∷ A) A) ≡ None) [ true ↦ λ e. rest | false ↦ λ e. rw e rest ] in
     by (r.connection.number == conn) refl
 
 pub find_kept : (conn k : ℕ) (rows : List Row) → k ≢ conn → find (has_number k) (filter (λ r. not (r.connection.number == conn)) rows) ≡ find (has_number k) rows

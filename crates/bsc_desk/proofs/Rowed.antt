@@ -1,4 +1,5 @@
 -- What a history says of the rows of a desk that stands for it: a caller shows by it what the calls of the desk ask for.
+-- It serves bsc_hub and bsc_hub_core.
 use Rattle.std.proofs.Common.{◌≡◌, inl, inr, ℕ, ◌==◌, ◌+◌, ◌<◌, ◌≤◌, Bool, true, ◌&&◌, List, [], ◌∷◌, ◌++◌, length, Option, Some, refl, ap, sym, ◌∙◌, subst, arith}
 use Rattle.std.specs.List.{list_any}
 use Rattle.std.proofs.lemmas.Bool.{and_parts, and_from, or_cases, or_left, or_right, eq-eqb, eqb-true}
@@ -53,14 +54,16 @@ is_row_of d S caller c v s mine address =
 
 -- an unleft connection of a caller is a row of that caller
 pub is_row_by : (d : Desk) (S : List Stamped) (caller c : ℕ) → DeskStands d S → is_of (entries S) caller c ≡ true → IsRowBy d caller c
-is_row_by d S caller c s mine = any_row (λ (x : Connection). (x.number == c) && (x.caller == caller)) d.rows.items ∙ ap (list_any (λ (x : Connection). (x.number == c) && (x.caller == caller))) s.unleft_rows ∙ mine
+is_row_by d S caller c s mine = any_row (λ (x : Connection). (x.number == c) && (x.caller == caller)) d.rows.items
+    ∙ ap (list_any (λ (x : Connection). (x.number == c) && (x.caller == caller))) s.unleft_rows ∙ mine
 
 same_mark : (m n : Mark) → Some m ≡ Some n → m ≡ n
 same_mark m n e = cc
 
 -- the mark that the history keeps for a connection is that of its inlet
 pub is_mark_of : (d : Desk) (S : List Stamped) (c : ℕ) (m : Mark) → DeskStands d S → mark_of S c ≡ Some m → IsMarkOf d c m
-is_mark_of d S c m s h = all-weaker (λ r. IsInletOf d.about S r.connection.number r.inlet) (λ r. r.connection.number ≡ c → inlet_mark r.inlet ≡ m) d.rows.items (λ r i same. same_mark (inlet_mark r.inlet) m (sym i.marked ∙ ap (mark_of S) same ∙ h)) s.inlets
+is_mark_of d S c m s h = all-weaker (λ r. IsInletOf d.about S r.connection.number r.inlet) (λ r. r.connection.number ≡ c → inlet_mark r.inlet ≡ m) d.rows.items
+    (λ r i same. same_mark (inlet_mark r.inlet) m (sym i.marked ∙ ap (mark_of S) same ∙ h)) s.inlets
 
 -- a history is no longer than the limit of calls, but for the leaves of all rows and one stop
 pub few_entries : (d : Desk) (S : List Stamped) → DeskStands d S → length S ≤ d.about.limits.calls + d.about.limits.rows + 1
@@ -71,7 +74,8 @@ few_entries d S s =
 
 -- who joined has the row of its caller, and the history keeps the mark of its inlet
 
-pub joined_mark : (n : Desk) (S : List Stamped) (caller : ℕ) (who : Identity) (m : Mark) (conn : ℕ) (replaced : Option ℕ) → DeskStands n (S ++ connect_stamped caller who m (Joined conn replaced) ∷ []) → mark_of (S ++ connect_stamped caller who m (Joined conn replaced) ∷ []) conn ≡ Some m
+pub joined_mark : (n : Desk) (S : List Stamped) (caller : ℕ) (who : Identity) (m : Mark) (conn : ℕ) (replaced : Option ℕ)
+    → DeskStands n (S ++ connect_stamped caller who m (Joined conn replaced) ∷ []) → mark_of (S ++ connect_stamped caller who m (Joined conn replaced) ∷ []) conn ≡ Some m
 joined_mark n S caller who m conn replaced s =
     let e = connect_stamped caller who m (Joined conn replaced) in
     let x : Connection = record { number = conn; caller = caller; who = who } in

@@ -1,5 +1,7 @@
 -- Connections that are filed one after the other in the order of their octets.
-use Rattle.std.proofs.Common.{◌≡◌, ◌<◌, ◌≤◌, ◌+◌, ◌⊎◌, inl, inr, ℕ, zero, suc, Bool, true, false, cond, List, [], ◌∷◌, ◌++◌, length, filter, fold, get_or, take, drop, slice_get, Option, Some, None, refl, ap, sym, ◌∙◌, subst, arith}
+-- It serves clauses of functions of `connecting`, `desk`, `directory` and `rows`.
+use Rattle.std.proofs.Common.{◌≡◌, ◌<◌, ◌≤◌, ◌+◌, ◌⊎◌, inl, inr, ℕ, zero, suc, Bool, true, false, cond, List, [], ◌∷◌, ◌++◌, length, filter, fold, get_or, take, drop, slice_get}
+use Rattle.std.proofs.Common.{Option, Some, None, refl, ap, sym, ◌∙◌, subst, arith}
 use Rattle.std.specs.List.{AllByRecursion}
 use Rattle.std.specs.List.Sorted.{IsPartitionedBy, IsPartitionPoint}
 use Rattle.std.specs.Option.{option_or}
@@ -33,7 +35,8 @@ module _ (key : Connection → List ℕ) where
   none_of k [] all = refl
   none_of k (c ∷ cs) all =
       let no : has k c ≡ false = (
-      let by : (b : Bool) → has k c ≡ b → b ≡ false = λ b. elim b as (λ b. has k c ≡ b → b ≡ false) [ true ↦ λ e. absurd (both_ways (at_most (key c) k) all.0 (at_most-itself (key c) k (same_text (key c) k (sym e)))) | false ↦ λ e. refl ] in
+      let by : (b : Bool) → has k c ≡ b → b ≡ false = λ b. elim b as (λ b. has k c ≡ b
+      → b ≡ false) [ true ↦ λ e. absurd (both_ways (at_most (key c) k) all.0 (at_most-itself (key c) k (same_text (key c) k (sym e)))) | false ↦ λ e. refl ] in
       by (has k c) refl) in
       rw (none_of k cs all.1, no) refl
 
@@ -46,7 +49,8 @@ module _ (key : Connection → List ℕ) where
   all_above k c cs above all = (
     above,
     all-weaker (Precedes key c) (λ (d : Connection). at_most (key d) k ≡ false) cs (λ d h. (
-        let by : (b : Bool) → at_most (key d) k ≡ b → b ≡ false = λ b. elim b as (λ b. at_most (key d) k ≡ b → b ≡ false) [ true ↦ λ e. absurd (both_ways (at_most (key c) k) above (at_most-chain (key c) (key d) k h e)) | false ↦ λ e. refl ] in
+        let by : (b : Bool) → at_most (key d) k ≡ b → b ≡ false = λ b. elim b as (λ b. at_most (key d) k ≡ b
+        → b ≡ false) [ true ↦ λ e. absurd (both_ways (at_most (key c) k) above (at_most-chain (key c) (key d) k h e)) | false ↦ λ e. refl ] in
         by (at_most (key d) k) refl)) all,
   )
 
@@ -55,17 +59,25 @@ module _ (key : Connection → List ℕ) where
   all-put : (P : Connection → Type 0) (k : List ℕ) (cs : List Connection) (c : Connection) → AllByRecursion P cs → P c → AllByRecursion P (take (up_to key k cs) cs ++ c ∷ drop (up_to key k cs) cs)
   all-put P k [] c all this = (this, tt)
   all-put P k (x ∷ xs) c all this =
-      elim (at_most (key x) k) as (λ b. AllByRecursion P (take (cond b (suc (up_to key k xs)) 0) (x ∷ xs) ++ c ∷ drop (cond b (suc (up_to key k xs)) 0) (x ∷ xs))) [ true ↦ (all.0, all-put P k xs c all.1 this) | false ↦ (this, all) ]
+      elim (at_most (key x) k) as (λ b. AllByRecursion P (take (cond b (suc (up_to key k xs)) 0) (x ∷ xs) ++ c ∷ drop (cond b (suc (up_to key k xs)) 0) (x ∷ xs))) [
+        | true ↦ (
+          all.0,
+          all-put P k xs c all.1 this,
+        )
+        | false ↦ (this, all)
+      ]
 
   length-put : (k : List ℕ) (cs : List Connection) (c : Connection) → length (take (up_to key k cs) cs ++ c ∷ drop (up_to key k cs) cs) ≡ suc (length cs)
   length-put k [] c = refl
-  length-put k (x ∷ xs) c = elim (at_most (key x) k) as (λ b. length (take (cond b (suc (up_to key k xs)) 0) (x ∷ xs) ++ c ∷ drop (cond b (suc (up_to key k xs)) 0) (x ∷ xs)) ≡ suc (suc (length xs))) [ true ↦ ap suc (length-put k xs c) | false ↦ refl ]
+  length-put k (x ∷ xs) c = elim (at_most (key x) k) as (λ b. length (take (cond b (suc (up_to key k xs)) 0) (x ∷ xs) ++ c ∷ drop (cond b (suc (up_to key k xs)) 0) (x ∷ xs))
+      ≡ suc (suc (length xs))) [ true ↦ ap suc (length-put k xs c) | false ↦ refl ]
 
   pub order-filed : (cs : List Connection) (c : Connection) → InOrder (Precedes key) cs → InOrder (Precedes key) (filed key cs c)
   order-filed [] c order = (tt, tt)
   order-filed (x ∷ xs) c order =
       let k = key c in
-      let by : (b : Bool) → at_most (key x) k ≡ b → InOrder (Precedes key) (take (cond b (suc (up_to key k xs)) 0) (x ∷ xs) ++ c ∷ drop (cond b (suc (up_to key k xs)) 0) (x ∷ xs)) = λ b. elim b as (λ b. at_most (key x) k ≡ b → InOrder (Precedes key) (take (cond b (suc (up_to key k xs)) 0) (x ∷ xs) ++ c ∷ drop (cond b (suc (up_to key k xs)) 0) (x ∷ xs))) [
+      let by : (b : Bool) → at_most (key x) k ≡ b → InOrder (Precedes key) (take (cond b (suc (up_to key k xs)) 0) (x ∷ xs) ++ c ∷ drop (cond b (suc (up_to key k xs)) 0) (x ∷ xs)) =
+      λ b. elim b as (λ b. at_most (key x) k ≡ b → InOrder (Precedes key) (take (cond b (suc (up_to key k xs)) 0) (x ∷ xs) ++ c ∷ drop (cond b (suc (up_to key k xs)) 0) (x ∷ xs))) [
         | true ↦ λ e. (all-put (Precedes key x) k xs c order.0 e, order-filed xs c order.1)
         | false ↦ λ e. (let less = at_most-other (key x) k e in ((less, all-weaker (Precedes key x) (Precedes key c) xs (λ d h. at_most-chain k (key x) (key d) less h) order.0), order))
       ] in
@@ -80,8 +92,10 @@ module _ (key : Connection → List ℕ) where
         | true ↦ λ e. ap (λ (o : Option Connection). option_or o (one k x)) (last-filed k xs c order.1) ∙ sym (or_assoc (one k c) (last_of (has k) xs) (one k x))
         | false ↦ λ e. (
             let L = option_or (last_of (has k) xs) (one k x) in
-            let none : has k c ≡ true → L ≡ None = λ h. none_of k (x ∷ xs) (subst (λ (l : List ℕ). AllByRecursion (λ d. at_most (key d) l ≡ false) (x ∷ xs)) (same_text (key c) k (sym h)) (all_above (key c) x xs e order.0)) in
-            let on : (b : Bool) → has k c ≡ b → option_or L (cond b (Some c) None) ≡ option_or (cond b (Some c) None) L = λ b. elim b as (λ b. has k c ≡ b → option_or L (cond b (Some c) None) ≡ option_or (cond b (Some c) None) L) [ true ↦ λ h. rw (none h) refl | false ↦ λ h. or_none L ] in
+            let none : has k c ≡ true → L ≡ None = λ h. none_of k (x ∷ xs) (subst (λ (l : List ℕ). AllByRecursion (λ d. at_most (key d) l ≡ false) (x ∷ xs)) (same_text (key c) k (sym h))
+            (all_above (key c) x xs e order.0)) in
+            let on : (b : Bool) → has k c ≡ b → option_or L (cond b (Some c) None) ≡ option_or (cond b (Some c) None) L =
+            λ b. elim b as (λ b. has k c ≡ b → option_or L (cond b (Some c) None) ≡ option_or (cond b (Some c) None) L) [ true ↦ λ h. rw (none h) refl | false ↦ λ h. or_none L ] in
             on (has k c) refl)
       ] in
       by (at_most (key x) (key c)) refl
@@ -125,7 +139,8 @@ module _ (key : Connection → List ℕ) where
   filter-fold q (c ∷ cs) es order =
       filter-fold q cs (filed key es c) (order-filed es c order)
       ∙ ap (λ (l : List Connection). fold (filed key) l (filter q cs)) (filter-filed q es c order)
-      ∙ elim (q c) as (λ b. fold (filed key) (cond b (filed key (filter q es) c) (filter q es)) (filter q cs) ≡ fold (filed key) (filter q es) (cond b (c ∷ filter q cs) (filter q cs))) [ true ↦ refl | false ↦ refl ]
+      ∙ elim (q c) as (λ b. fold (filed key) (cond b (filed key (filter q es) c) (filter q es)) (filter q cs)
+      ≡ fold (filed key) (filter q es) (cond b (c ∷ filter q cs) (filter q cs))) [ true ↦ refl | false ↦ refl ]
 
   pub length-sorted : (cs : List Connection) → length (sorted_by key cs) ≡ length cs
   length-sorted cs = let e = length-fold cs [] 0 refl in omega arith
@@ -156,16 +171,19 @@ module _ (key : Connection → List ℕ) where
       ] in
       by (at_most (key x) k) refl
     where
-      behind : (k : List ℕ) (x : Connection) (xs : List Connection) → AllByRecursion (Precedes key x) xs → at_most (key x) k ≡ true → (n : ℕ) → up_to key k xs ≡ n → passing (has k) (before xs (up_to key k xs)) ≡ last_of (has k) xs → passing (has k) (slice_get (x ∷ xs) n) ≡ option_or (last_of (has k) xs) (one k x)
+      behind : (k : List ℕ) (x : Connection) (xs : List Connection) → AllByRecursion (Precedes key x) xs → at_most (key x) k ≡ true → (n : ℕ) → up_to key k xs ≡ n
+          → passing (has k) (before xs (up_to key k xs)) ≡ last_of (has k) xs → passing (has k) (slice_get (x ∷ xs) n) ≡ option_or (last_of (has k) xs) (one k x)
       behind k x xs all e zero up rest = ap (λ (o : Option Connection). option_or o (one k x)) (ap (λ (m : ℕ). passing (has k) (before xs m)) (sym up) ∙ rest)
       behind k x [] all e (suc n) up rest = cc
       behind k x (y ∷ ys) all e (suc n) up rest =
           let here : passing (has k) (slice_get (y ∷ ys) n) ≡ last_of (has k) (y ∷ ys) = ap (λ (m : ℕ). passing (has k) (before (y ∷ ys) m)) (sym up) ∙ rest in
           let L = last_of (has k) ys in
           let low : at_most (key y) k ≡ true = (
-          let by : (b : Bool) → at_most (key y) k ≡ b → b ≡ true = λ b. elim b as (λ b. at_most (key y) k ≡ b → b ≡ true) [ true ↦ λ h. refl | false ↦ λ h. (let zero_up : up_to key k (y ∷ ys) ≡ 0 = rw h refl in absurd (omega arith)) ] in
+          let by : (b : Bool) → at_most (key y) k ≡ b → b ≡ true = λ b. elim b as (λ b. at_most (key y) k ≡ b
+          → b ≡ true) [ true ↦ λ h. refl | false ↦ λ h. (let zero_up : up_to key k (y ∷ ys) ≡ 0 = rw h refl in absurd (omega arith)) ] in
           by (at_most (key y) k) refl) in
-          let on : (b : Bool) → has k x ≡ b → option_or L (one k y) ≡ option_or (option_or L (one k y)) (cond b (Some x) None) = λ b. elim b as (λ b. has k x ≡ b → option_or L (one k y) ≡ option_or (option_or L (one k y)) (cond b (Some x) None)) [
+          let on : (b : Bool) → has k x ≡ b → option_or L (one k y) ≡ option_or (option_or L (one k y)) (cond b (Some x) None) =
+          λ b. elim b as (λ b. has k x ≡ b → option_or L (one k y) ≡ option_or (option_or L (one k y)) (cond b (Some x) None)) [
             | true ↦ λ h. (
                 let same_x : key x ≡ k = same_text (key x) k (sym h) in
                 let same_y : key y ≡ k = at_most-both (key y) k low (subst (λ (l : List ℕ). at_most l (key y) ≡ true) same_x all.0) in
@@ -189,11 +207,13 @@ module _ (key : Connection → List ℕ) where
   pub point_is : (k : List ℕ) (cs : List Connection) (n : ℕ) → n ≤ length cs → IsPartitionPoint (λ c. at_most (key c) k ≡ true) (λ c. at_most (key c) k ≡ false) cs n → n ≡ up_to key k cs
   point_is k [] n within point = omega arith
   point_is k (x ∷ xs) zero within point = rw (point.1 0 x (omega arith) (omega arith)) refl
-  point_is k (x ∷ xs) (suc n) within point = rw (point.0 0 x (omega arith) (omega arith)) (ap suc (point_is k xs n (omega arith) (λ i d low high. point.0 (suc i) d (omega arith) (omega arith), λ i d low high. point.1 (suc i) d (omega arith) (omega arith))))
+  point_is k (x ∷ xs) (suc n) within point = rw (point.0 0 x (omega arith) (omega arith))
+      (ap suc (point_is k xs n (omega arith) (λ i d low high. point.0 (suc i) d (omega arith) (omega arith), λ i d low high. point.1 (suc i) d (omega arith) (omega arith))))
 
   -- what a search gives, by its steps
 
-  pub newest_is : (k : List ℕ) (cs list : List Connection) (place : ℕ) (found result : Option Connection) → in_order (precedes key) cs ≡ true → list ≡ cs → place ≡ up_to key k list → found ≡ before list place → result ≡ passing (λ c. same_key (key c) k) found → result ≡ last_of (λ c. same_key (key c) k) cs
+  pub newest_is : (k : List ℕ) (cs list : List Connection) (place : ℕ) (found result : Option Connection) → in_order (precedes key) cs ≡ true → list ≡ cs → place ≡ up_to key k list
+      → found ≡ before list place → result ≡ passing (λ c. same_key (key c) k) found → result ≡ last_of (λ c. same_key (key c) k) cs
   newest_is k cs list place found result order same up one last =
       last
       ∙ ap (passing (has k)) (one ∙ ap (before list) up ∙ ap (λ (l : List Connection). before l (up_to key k l)) same)

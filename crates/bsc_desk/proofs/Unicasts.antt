@@ -1,5 +1,7 @@
 -- A unicast: it goes to the row of its holder, if there is one.
-use Rattle.std.proofs.Common.{◌≡◌, ◌≢◌, ℕ, zero, suc, ◌+◌, ◌<◌, ◌==◌, Bool, true, false, not, ◌&&◌, cond, List, [], ◌∷◌, ◌++◌, length, map, find, get_or, Option, Some, None, is_some, refl, ap, sym, ◌∙◌, subst, arith, append-nil}
+-- It serves the clauses of `drop_one`, `holds_at` and `send_one`.
+use Rattle.std.proofs.Common.{◌≡◌, ◌≢◌, ℕ, zero, suc, ◌+◌, ◌<◌, ◌==◌, Bool, true, false, not, ◌&&◌, cond, List, [], ◌∷◌, ◌++◌, length, map, find, get_or, Option, Some, None}
+use Rattle.std.proofs.Common.{is_some, refl, ap, sym, ◌∙◌, subst, arith, append-nil}
 use Rattle.std.specs.List.{list_any, list_all, position, AllByRecursion}
 use Rattle.std.specs.Option.{option_map}
 use Rattle.std.specs.Cmp.Lexicographic.{same_text, bytes_decides}
@@ -30,7 +32,8 @@ use Rattle.bsc_desk.specs.declared.desk.Desk.{Desk}
 use Rattle.bsc_desk.specs.declared.fate.Fate.{Fate}
 use Rattle.bsc_desk.specs.declared.fate.Fate.TheVariants.{Unmeant, TooLong, Entered, FoundFull}
 use Rattle.bsc_desk.specs.declared.forwarding.OneReply.{OneReply}
-use Rattle.bsc_desk.specs.declared.forwarding.OneReply.TheVariants.{Appended as OneAppended, Closed as OneClosed, Skipped as OneSkipped, NoHolder as OneNoHolder, NotCurrent as OneNotCurrent, Stopped as OneStopped}
+use Rattle.bsc_desk.specs.declared.forwarding.OneReply.TheVariants.{Appended as OneAppended, Closed as OneClosed, Skipped as OneSkipped, NoHolder as OneNoHolder}
+use Rattle.bsc_desk.specs.declared.forwarding.OneReply.TheVariants.{NotCurrent as OneNotCurrent, Stopped as OneStopped}
 use Rattle.bsc_desk.specs.declared.row.Row.{Row}
 use Rattle.bsc_desk.specs.Changes.{ChangesAt}
 use Rattle.bsc_desk.specs.Counted.{unicast_counts}
@@ -61,14 +64,18 @@ behind_holder : (v : Vmac) (r : Row) (rows : List Row) → holds v r ≡ true �
 behind_holder v r [] is all = tt
 behind_holder v r (y ∷ rows) is all =
     let mine = and_parts (is_open r) (same_vmac r.connection.who.vmac v) is in
-    let other : same_key (address_of r.connection) (address_of y.connection) ≡ false = not-true (same_key (address_of r.connection) (address_of y.connection)) (ap (λ (b : Bool). not (b && same_key (address_of r.connection) (address_of y.connection))) (sym mine.0) ∙ all.0) in (
+    let other : same_key (address_of r.connection) (address_of y.connection) ≡ false =
+    not-true (same_key (address_of r.connection) (address_of y.connection)) (ap (λ (b : Bool). not (b && same_key (address_of r.connection) (address_of y.connection))) (sym mine.0) ∙ all.0) in (
       false_from_ne_true (holds v y) (λ h. (
           let its = and_parts (is_open y) (same_vmac y.connection.who.vmac v) h in
-          both_ways (same_key (address_of r.connection) (address_of y.connection)) other ((bytes_decides (address_of r.connection) (address_of y.connection)).1 (same_text (address_of r.connection) v.0 (sym mine.1) ∙ sym (same_text (address_of y.connection) v.0 (sym its.1)))))),
+          both_ways (same_key (address_of r.connection) (address_of y.connection)) other
+          ((bytes_decides (address_of r.connection) (address_of y.connection)).1
+          (same_text (address_of r.connection) v.0 (sym mine.1) ∙ sym (same_text (address_of y.connection) v.0 (sym its.1)))))),
       behind_holder v r rows is all.1,
     )
 
-only_from : (v : Vmac) (i : ℕ) (rows : List Row) (d : Row) → i < length rows → holds v (get_or rows i d) ≡ true → ((k : ℕ) → k < i → holds v (get_or rows k d) ≡ false) → InOrder (λ r s. gives_way address_of r s ≡ true) rows → OnlyAt (holds v) i rows
+only_from : (v : Vmac) (i : ℕ) (rows : List Row) (d : Row) → i < length rows → holds v (get_or rows i d) ≡ true → ((k : ℕ) → k < i → holds v (get_or rows k d) ≡ false)
+    → InOrder (λ r s. gives_way address_of r s ≡ true) rows → OnlyAt (holds v) i rows
 only_from v i [] d within here before order = absurd (omega arith)
 only_from v zero (r ∷ rows) d within here before order = (here, behind_holder v r rows here order.0)
 only_from v (suc i) (r ∷ rows) d within here before order = (before 0 (omega arith), only_from v i rows d (omega arith) here (λ k h. before (suc k) (omega arith)) order.1)
@@ -87,7 +94,11 @@ inside t i (y ∷ ys) p = (position-Some t (y ∷ ys) i y p).0
 
 pub open_at : (v : Vmac) (place : Option ℕ) (rows : List Row) → place ≡ position (holds v) rows → IsOpenAt place rows
 open_at v None rows is = tt
-open_at v (Some i) rows is = (inside (holds v) i rows (sym is), λ r same. is_None r.ending (and_parts (is_open r) (same_vmac r.connection.who.vmac v) (subst (λ z. holds v z ≡ true) (sym same) (position-Some (holds v) rows i r (sym is)).1)).0)
+open_at v (Some i) rows is = (
+  inside (holds v) i rows (sym is),
+  λ r same. is_None r.ending
+      (and_parts (is_open r) (same_vmac r.connection.who.vmac v) (subst (λ z. holds v z ≡ true) (sym same) (position-Some (holds v) rows i r (sym is)).1)).0,
+)
 
 -- the fates of a unicast: its own at the holder's row, and none elsewhere
 
@@ -119,7 +130,8 @@ at_meant t full o r (TooLong c) s e h = (e, h)
 at_meant t full o r (Entered k) s e h = (e, h)
 at_meant t full o r (FoundFull k) s e h = (e, h)
 
-somebody_all : (t : Row → Bool) (full : Option End) (o : List ℕ) (i : ℕ) (x : Fate) (rows after : List Row) → OnlyAt t i rows → ChangesAt (λ r s. Fares full o r x s) i rows after → AllBefall t full o rows (somebody i x rows) after
+somebody_all : (t : Row → Bool) (full : Option End) (o : List ℕ) (i : ℕ) (x : Fate) (rows after : List Row) → OnlyAt t i rows → ChangesAt (λ r s. Fares full o r x s) i rows after
+    → AllBefall t full o rows (somebody i x rows) after
 somebody_all t full o zero x (r ∷ rows) (s ∷ after) only h = (at_meant t full o r x s only.0 h.0, subst (AllBefall t full o rows (nobody rows)) (sym h.1) (nobody_all t full o rows only.1))
 somebody_all t full o (suc i) x (r ∷ rows) (s ∷ after) only h = ((only.0, h.0), somebody_all t full o i x rows after only.1 h.1)
 somebody_all t full o i x rows after only h = absurd h
@@ -141,7 +153,8 @@ told_other o r (TooLong d) s c h other = record { named = refl; seen = refl; end
 told_other o r (Entered k) s c h other = (let no : (k.conn == c) ≡ false = ne_eqb k.conn c (λ e. other (sym h.0.conn ∙ e)) in record { named = no; seen = rw no refl; ended = refl })
 told_other o r (FoundFull k) s c h other = (let no : (k.conn == c) ≡ false = ne_eqb k.conn c (λ e. other (sym h.0.conn ∙ e)) in record { named = refl; seen = rw no refl; ended = rw no refl })
 
-told_nobody : (o : List ℕ) (r : Row) (x : Fate) (s : Row) (rows : List Row) → Fares (Some Full) o r x s → AllByRecursion (λ y. number r ≢ number y) rows → AllFates (λ y z. OneTold x (number y) z) rows (nobody rows)
+told_nobody : (o : List ℕ) (r : Row) (x : Fate) (s : Row) (rows : List Row) → Fares (Some Full) o r x s → AllByRecursion (λ y. number r ≢ number y) rows
+    → AllFates (λ y z. OneTold x (number y) z) rows (nobody rows)
 told_nobody o r x s [] h apart = tt
 told_nobody o r x s (y ∷ rows) h apart = (told_other o r x s (number y) h apart.0, told_nobody o r x s rows h apart.1)
 
@@ -150,7 +163,8 @@ its_row R P zero (r ∷ rows) (s ∷ after) h all = (r, s, h.0, all.0)
 its_row R P (suc i) (r ∷ rows) (s ∷ after) h all = its_row R P i rows after h.1 all.1
 its_row R P i rows after h all = absurd h
 
-told_somebody : (o : List ℕ) (x : Fate) (i : ℕ) (rows after : List Row) → ChangesAt (λ r s. Fares (Some Full) o r x s) i rows after → Apart number rows → AllFates (λ y z. OneTold x (number y) z) rows (somebody i x rows)
+told_somebody : (o : List ℕ) (x : Fate) (i : ℕ) (rows after : List Row) → ChangesAt (λ r s. Fares (Some Full) o r x s) i rows after → Apart number rows
+    → AllFates (λ y z. OneTold x (number y) z) rows (somebody i x rows)
 told_somebody o x zero (r ∷ rows) (s ∷ after) h apart = (told_own o r x s h.0, told_nobody o r x s rows h.0 apart.0)
 told_somebody o x (suc i) (r ∷ rows) (s ∷ after) h apart =
     let at = its_row (λ r s. Fares (Some Full) o r x s) (λ y. number r ≢ number y) i rows after h.1 apart.0 in
@@ -163,21 +177,29 @@ told_none (y ∷ rows) = (record { named = refl; seen = refl; ended = refl }, to
 
 -- the reply is the one that the history asks for
 
-said_one : (a : About) (S : List Stamped) (m o : List ℕ) (r : Row) (x : Fate) (s : Row) → IsInletOf a S (number r) r.inlet → Fares (Some Full) o r x s → one_reply (one_said x) ≡ unicast_reply a (entries S) m o (looks_in x) (Some (connection r))
+said_one : (a : About) (S : List Stamped) (m o : List ℕ) (r : Row) (x : Fate) (s : Row) → IsInletOf a S (number r) r.inlet → Fares (Some Full) o r x s
+    → one_reply (one_said x) ≡ unicast_reply a (entries S) m o (looks_in x) (Some (connection r))
 said_one a S m o r Unmeant s p h = absurd h
-said_one a S m o r (TooLong c) s p h = ap Skipped h.1 ∙ sym (ap (λ (b : Bool). cond b (Skipped (number r)) (cond (is_found_full a (sent a (entries S) (number r)) [] (number r)) (Closed (number r)) (Appended (number r)))) h.0)
+said_one a S m o r (TooLong c) s p h = ap Skipped h.1 ∙ sym (ap (λ (b : Bool). cond b (Skipped (number r))
+    (cond (is_found_full a (sent a (entries S) (number r)) [] (number r)) (Closed (number r)) (Appended (number r)))) h.0)
 said_one a S m o r (Entered k) s p h =
     let n = number r in
     let full : is_found_full a (sent a (entries S) n) (k ∷ []) n ≡ false = full_seen a S (λ y. true) (Some Full) o (k ∷ []) r (Entered k) s p (told_own o r (Entered k) s h).seen (refl, h) in
-    ap Appended h.0.conn ∙ sym (ap (λ (b : Bool). cond b (Skipped n) (cond (is_found_full a (sent a (entries S) n) (k ∷ []) n) (Closed n) (Appended n))) h.0.fits ∙ ap (λ (b : Bool). cond b (Closed n) (Appended n)) full)
+    ap Appended h.0.conn ∙ sym (ap (λ (b : Bool). cond b (Skipped n) (cond (is_found_full a (sent a (entries S) n) (k ∷ []) n) (Closed n) (Appended n))) h.0.fits
+    ∙ ap (λ (b : Bool). cond b (Closed n) (Appended n)) full)
 said_one a S m o r (FoundFull k) s p h =
     let n = number r in
     let full : is_found_full a (sent a (entries S) n) (k ∷ []) n ≡ true = full_seen a S (λ y. true) (Some Full) o (k ∷ []) r (FoundFull k) s p (told_own o r (FoundFull k) s h).seen (refl, h) in
-    ap Closed h.0.conn ∙ sym (ap (λ (b : Bool). cond b (Skipped n) (cond (is_found_full a (sent a (entries S) n) (k ∷ []) n) (Closed n) (Appended n))) h.0.fits ∙ ap (λ (b : Bool). cond b (Closed n) (Appended n)) full)
+    ap Closed h.0.conn ∙ sym (ap (λ (b : Bool). cond b (Skipped n) (cond (is_found_full a (sent a (entries S) n) (k ∷ []) n) (Closed n) (Appended n))) h.0.fits
+    ∙ ap (λ (b : Bool). cond b (Closed n) (Appended n)) full)
 
-said_at : (a : About) (S : List Stamped) (m o : List ℕ) (t : Row → Bool) (x : Fate) (i : ℕ) (rows after : List Row) → OnlyAt t i rows → ChangesAt (λ r s. Fares (Some Full) o r x s) i rows after → AllByRecursion (λ r. IsInletOf a S r.connection.number r.inlet) rows → one_reply (one_said x) ≡ unicast_reply a (entries S) m o (looks_in x) (option_map connection (find t rows))
-said_at a S m o t x zero (r ∷ rows) (s ∷ after) only h all = said_one a S m o r x s all.0 h.0 ∙ sym (ap (λ (b : Bool). unicast_reply a (entries S) m o (looks_in x) (option_map connection (cond b (Some r) (find t rows)))) only.0)
-said_at a S m o t x (suc i) (r ∷ rows) (s ∷ after) only h all = said_at a S m o t x i rows after only.1 h.1 all.1 ∙ sym (ap (λ (b : Bool). unicast_reply a (entries S) m o (looks_in x) (option_map connection (cond b (Some r) (find t rows)))) only.0)
+said_at : (a : About) (S : List Stamped) (m o : List ℕ) (t : Row → Bool) (x : Fate) (i : ℕ) (rows after : List Row) → OnlyAt t i rows
+    → ChangesAt (λ r s. Fares (Some Full) o r x s) i rows after → AllByRecursion (λ r. IsInletOf a S r.connection.number r.inlet) rows
+    → one_reply (one_said x) ≡ unicast_reply a (entries S) m o (looks_in x) (option_map connection (find t rows))
+said_at a S m o t x zero (r ∷ rows) (s ∷ after) only h all = said_one a S m o r x s all.0 h.0
+    ∙ sym (ap (λ (b : Bool). unicast_reply a (entries S) m o (looks_in x) (option_map connection (cond b (Some r) (find t rows)))) only.0)
+said_at a S m o t x (suc i) (r ∷ rows) (s ∷ after) only h all = said_at a S m o t x i rows after only.1 h.1 all.1
+    ∙ sym (ap (λ (b : Bool). unicast_reply a (entries S) m o (looks_in x) (option_map connection (cond b (Some r) (find t rows)))) only.0)
 said_at a S m o t x i rows after only h all = absurd h
 
 -- all of it, by the place of the holder's row
@@ -194,7 +216,9 @@ pub record GoesToHolder (a : About) (S : List Stamped) (m o : List ℕ) (t : Row
   pub told : AllFates (λ y z. OneTold x (number y) z) rows fates
   pub said : one_reply (one_said x) ≡ unicast_reply a (entries S) m o (looks_in x) (option_map connection (find t rows))
 
-pub goes_to_holder : (a : About) (S : List Stamped) (m o : List ℕ) (v : Vmac) (place : Option ℕ) (x : Fate) (rows after : List Row) → AllByRecursion (λ r. IsInletOf a S r.connection.number r.inlet) rows → Apart number rows → in_order (gives_way address_of) rows ≡ true → place ≡ position (holds v) rows → FaresAt place o rows x after → GoesToHolder a S m o (holds v) x rows after
+pub goes_to_holder : (a : About) (S : List Stamped) (m o : List ℕ) (v : Vmac) (place : Option ℕ) (x : Fate) (rows after : List Row)
+    → AllByRecursion (λ r. IsInletOf a S r.connection.number r.inlet) rows → Apart number rows → in_order (gives_way address_of) rows ≡ true → place ≡ position (holds v) rows
+    → FaresAt place o rows x after → GoesToHolder a S m o (holds v) x rows after
 goes_to_holder a S m o v None x rows after all apart order is h =
     let none = none_hold (holds v) rows (sym (position_any (holds v) rows) ∙ ap is_some (sym is)) in
     subst (λ z. GoesToHolder a S m o (holds v) z rows after) (sym h.0) (record {
@@ -222,7 +246,8 @@ looks_said (TooLong c) = refl
 looks_said (Entered k) = refl
 looks_said (FoundFull k) = refl
 
-pub counted_one : (caller conn : ℕ) (m : List ℕ) (looks : List Look) (r : OneReply) → is_broadcast m ≡ false → unicast_counts (one_reply r) ≡ counts_of (forward_entry caller conn m looks (one_reply r))
+pub counted_one : (caller conn : ℕ) (m : List ℕ) (looks : List Look) (r : OneReply) → is_broadcast m ≡ false
+    → unicast_counts (one_reply r) ≡ counts_of (forward_entry caller conn m looks (one_reply r))
 counted_one caller conn m looks (OneAppended k) one = rw one refl
 counted_one caller conn m looks (OneClosed k) one = rw one refl
 counted_one caller conn m looks (OneSkipped c) one = rw one refl
@@ -230,7 +255,8 @@ counted_one caller conn m looks OneNoHolder one = rw one refl
 counted_one caller conn m looks (OneNotCurrent e) one = rw one refl
 counted_one caller conn m looks OneStopped one = rw one refl
 
-pub unserved_one : (caller conn : ℕ) (m : List ℕ) (w : Option End) (r : OneReply) → r ≡ one_unserved w → is_broadcast m ≡ false → unicast_counts (one_reply r) ≡ counts_of (forward_entry caller conn m [] (unserved w))
+pub unserved_one : (caller conn : ℕ) (m : List ℕ) (w : Option End) (r : OneReply) → r ≡ one_unserved w → is_broadcast m ≡ false
+    → unicast_counts (one_reply r) ≡ counts_of (forward_entry caller conn m [] (unserved w))
 unserved_one caller conn m w r is one =
     let said : one_reply (one_unserved w) ≡ unserved w = elim w as (λ w. one_reply (one_unserved w) ≡ unserved w) [ None ↦ refl | Some e ↦ refl ] in
     ap (λ (y : OneReply). unicast_counts (one_reply y)) is ∙ counted_one caller conn m [] (one_unserved w) one ∙ ap (λ (y : Reply). counts_of (forward_entry caller conn m [] y)) said
@@ -243,7 +269,9 @@ record Sends (d : Desk) (S : List Stamped) (caller conn : ℕ) (f : Frame) (x : 
   lawful : Lawful d.about (moment (entries S) (forward_entry caller conn f.message (looks_in x) (one_reply (one_said x))))
   goes : GoesToHolder d.about S f.message (out f.message f.sender) (holds (destination f.message)) x d.rows.items after
 
-core : (d : Desk) (S : List Stamped) (caller conn : ℕ) (f : Frame) (place : Option ℕ) (x : Fate) (after : List Row) → DeskStands d S → IsRowOf d caller conn f.sender → has_route f.message ≡ true → is_broadcast f.message ≡ false → d.tally.made < d.about.limits.calls → d.stopped_at ≡ None → end_of d conn ≡ None → place ≡ position (holds (destination f.message)) d.rows.items → FaresAt place (out f.message f.sender) d.rows.items x after → Sends d S caller conn f x after
+core : (d : Desk) (S : List Stamped) (caller conn : ℕ) (f : Frame) (place : Option ℕ) (x : Fate) (after : List Row) → DeskStands d S → IsRowOf d caller conn f.sender
+    → has_route f.message ≡ true → is_broadcast f.message ≡ false → d.tally.made < d.about.limits.calls → d.stopped_at ≡ None → end_of d conn ≡ None
+    → place ≡ position (holds (destination f.message)) d.rows.items → FaresAt place (out f.message f.sender) d.rows.items x after → Sends d S caller conn f x after
 core d S caller conn f place x after p is route one calls on current at fares =
     let a = d.about in
     let H = entries S in
@@ -252,47 +280,69 @@ core d S caller conn f place x after p is route one calls on current at fares =
     let v = destination m in
     let rows = d.rows.items in
     let go = goes_to_holder a S m o v place x rows after p.inlets (rows_apart d S p) d.filed.one_at at fares in
-    let test : (r : Row) → holds v r ≡ (is_open r && means m conn (connection r)) = λ r. sym (ap (λ (b : Bool). is_open r && cond b (not (r.connection.number == conn)) (same_vmac r.connection.who.vmac v)) one) in
+    let test : (r : Row) → holds v r ≡ (is_open r && means m conn (connection r)) =
+    λ r. sym (ap (λ (b : Bool). is_open r && cond b (not (r.connection.number == conn)) (same_vmac r.connection.who.vmac v)) one) in
     let meant_all = all_test (holds v) (Some Full) o (λ r. is_open r && means m conn (connection r)) rows go.fates after test go.all in
     let held : option_map connection (find (holds v) rows) ≡ holder H v = sym (live_found d S (λ (c : Connection). same_vmac c.who.vmac v) p) in
-    let says : one_reply (one_said x) ≡ served a H conn m o (looks_in x) = go.said ∙ ap (unicast_reply a H m o (looks_in x)) held ∙ sym (ap (λ (b : Bool). cond b (broadcast_reply a H o (looks_in x) (meant H conn m)) (unicast_reply a H m o (looks_in x) (holder H v))) one) in
+    let says : one_reply (one_said x) ≡ served a H conn m o (looks_in x) = go.said ∙ ap (unicast_reply a H m o (looks_in x)) held
+    ∙ sym (ap (λ (b : Bool). cond b (broadcast_reply a H o (looks_in x) (meant H conn m)) (unicast_reply a H m o (looks_in x) (holder H v))) one) in
     let named = ap (map (λ (k : Look). k.conn)) (sym go.looks) ∙ looks_named d S conn m o (Some Full) go.fates after p meant_all in
     let can = ap (list_all (λ (k : Look). can_find a H k.conn k.taken)) (sym go.looks) ∙ can_all a S (holds v) (Some Full) o rows go.fates after p.inlets go.all in
     record { lawful = lawful_served d S caller conn f (looks_in x) (one_reply (one_said x)) p is route calls on current says named can; goes = go }
 
-by_parts : (d : Desk) (S : List Stamped) (caller conn : ℕ) (f : Frame) (v : Vmac) (o : List ℕ) (place : Option ℕ) (x : Fate) (after : List Row) → DeskStands d S → IsRowOf d caller conn f.sender → has_route f.message ≡ true → is_broadcast f.message ≡ false → d.tally.made < d.about.limits.calls → d.stopped_at ≡ None → end_of d conn ≡ None → v ≡ destination f.message → o ≡ out f.message f.sender → place ≡ position (holds v) d.rows.items → FaresAt place o d.rows.items x after → Sends d S caller conn f x after
-by_parts d S caller conn f v o place x after p is route one calls on current to octets at fares = core d S caller conn f place x after p is route one calls on current (at ∙ ap (λ (w : Vmac). position (holds w) d.rows.items) to) (subst (λ (z : List ℕ). FaresAt place z d.rows.items x after) octets fares)
+by_parts : (d : Desk) (S : List Stamped) (caller conn : ℕ) (f : Frame) (v : Vmac) (o : List ℕ) (place : Option ℕ) (x : Fate) (after : List Row) → DeskStands d S
+    → IsRowOf d caller conn f.sender → has_route f.message ≡ true → is_broadcast f.message ≡ false → d.tally.made < d.about.limits.calls → d.stopped_at ≡ None → end_of d conn ≡ None
+    → v ≡ destination f.message → o ≡ out f.message f.sender → place ≡ position (holds v) d.rows.items → FaresAt place o d.rows.items x after → Sends d S caller conn f x after
+by_parts d S caller conn f v o place x after p is route one calls on current to octets at fares =
+    core d S caller conn f place x after p is route one calls on current (at ∙ ap (λ (w : Vmac). position (holds w) d.rows.items) to)
+    (subst (λ (z : List ℕ). FaresAt place z d.rows.items x after) octets fares)
 
-pub lawful_one : (d : Desk) (S : List Stamped) (caller conn : ℕ) (f : Frame) (v : Vmac) (o : List ℕ) (place : Option ℕ) (x : Fate) (after : List Row) (r : OneReply) → DeskStands d S → IsRowOf d caller conn f.sender → has_route f.message ≡ true → is_broadcast f.message ≡ false → d.tally.made < d.about.limits.calls → d.stopped_at ≡ None → end_of d conn ≡ None → v ≡ destination f.message → o ≡ out f.message f.sender → place ≡ position (holds v) d.rows.items → FaresAt place o d.rows.items x after → r ≡ one_said x → Lawful d.about (moment (entries S) (forward_entry caller conn f.message (one_looks r) (one_reply r)))
+pub lawful_one : (d : Desk) (S : List Stamped) (caller conn : ℕ) (f : Frame) (v : Vmac) (o : List ℕ) (place : Option ℕ) (x : Fate) (after : List Row) (r : OneReply) → DeskStands d S
+    → IsRowOf d caller conn f.sender → has_route f.message ≡ true → is_broadcast f.message ≡ false → d.tally.made < d.about.limits.calls → d.stopped_at ≡ None → end_of d conn ≡ None
+    → v ≡ destination f.message → o ≡ out f.message f.sender → place ≡ position (holds v) d.rows.items → FaresAt place o d.rows.items x after → r ≡ one_said x
+    → Lawful d.about (moment (entries S) (forward_entry caller conn f.message (one_looks r) (one_reply r)))
 lawful_one d S caller conn f v o place x after r p is route one calls on current to octets at fares reply =
     let s = by_parts d S caller conn f v o place x after p is route one calls on current to octets at fares in
     subst (λ (y : OneReply). Lawful d.about (moment (entries S) (forward_entry caller conn f.message (one_looks y) (one_reply y)))) (sym reply)
     (subst (λ (l : List Look). Lawful d.about (moment (entries S) (forward_entry caller conn f.message l (one_reply (one_said x))))) (sym (looks_said x)) s.lawful)
 
-pub stands_one : (d n : Desk) (S : List Stamped) (caller conn : ℕ) (f : Frame) (v : Vmac) (o : List ℕ) (place : Option ℕ) (x : Fate) (r : OneReply) → DeskStands d S → IsRowOf d caller conn f.sender → has_route f.message ≡ true → is_broadcast f.message ≡ false → d.tally.made < d.about.limits.calls → d.stopped_at ≡ None → end_of d conn ≡ None → v ≡ destination f.message → o ≡ out f.message f.sender → place ≡ position (holds v) d.rows.items → FaresAt place o d.rows.items x n.rows.items → r ≡ one_said x → n.about ≡ d.about → n.stopped_at ≡ d.stopped_at → n.tally.made ≡ d.tally.made + 1 → n.tally.counts ≡ plus d.tally.counts (unicast_counts (one_reply r)) → DeskStands n (S ++ plain (forward_entry caller conn f.message (one_looks r) (one_reply r)) ∷ [])
+pub stands_one : (d n : Desk) (S : List Stamped) (caller conn : ℕ) (f : Frame) (v : Vmac) (o : List ℕ) (place : Option ℕ) (x : Fate) (r : OneReply) → DeskStands d S
+    → IsRowOf d caller conn f.sender → has_route f.message ≡ true → is_broadcast f.message ≡ false → d.tally.made < d.about.limits.calls → d.stopped_at ≡ None → end_of d conn ≡ None
+    → v ≡ destination f.message → o ≡ out f.message f.sender → place ≡ position (holds v) d.rows.items → FaresAt place o d.rows.items x n.rows.items → r ≡ one_said x → n.about ≡ d.about
+    → n.stopped_at ≡ d.stopped_at → n.tally.made ≡ d.tally.made + 1 → n.tally.counts ≡ plus d.tally.counts (unicast_counts (one_reply r))
+    → DeskStands n (S ++ plain (forward_entry caller conn f.message (one_looks r) (one_reply r)) ∷ [])
 stands_one d n S caller conn f v o place x r p is route one calls on current to octets at fares reply about stop made count =
     let s = by_parts d S caller conn f v o place x n.rows.items p is route one calls on current to octets at fares in
-    let counted = count ∙ ap (λ (y : OneReply). plus d.tally.counts (unicast_counts (one_reply y))) reply ∙ ap (plus d.tally.counts) (counted_one caller conn f.message (looks_in x) (one_said x) one) in
-    let stands = stands_sent d n S caller conn f (looks_in x) (one_reply (one_said x)) (holds (destination f.message)) (Some Full) s.goes.fates p is s.lawful (holds_open (destination f.message)) s.goes.all s.goes.told about stop made counted in
+    let counted = count ∙ ap (λ (y : OneReply). plus d.tally.counts (unicast_counts (one_reply y))) reply
+    ∙ ap (plus d.tally.counts) (counted_one caller conn f.message (looks_in x) (one_said x) one) in
+    let stands = stands_sent d n S caller conn f (looks_in x) (one_reply (one_said x)) (holds (destination f.message)) (Some Full) s.goes.fates p is s.lawful
+    (holds_open (destination f.message)) s.goes.all s.goes.told about stop made counted in
     subst (λ (y : OneReply). DeskStands n (S ++ plain (forward_entry caller conn f.message (one_looks y) (one_reply y)) ∷ [])) (sym reply)
     (subst (λ (l : List Look). DeskStands n (S ++ plain (forward_entry caller conn f.message l (one_reply (one_said x))) ∷ [])) (sym (looks_said x)) stands)
 
 -- the same without a history: the fates by which the rows changed, and the looks
-pub reaches : (v : Vmac) (o : List ℕ) (place : Option ℕ) (x : Fate) (r : OneReply) (rows after : List Row) → in_order (gives_way address_of) rows ≡ true → place ≡ position (holds v) rows → FaresAt place o rows x after → r ≡ one_said x → (fates : List Fate) × AllBefall (holds v) (Some Full) o rows fates after × (one_looks r ≡ looks_of fates)
+pub reaches : (v : Vmac) (o : List ℕ) (place : Option ℕ) (x : Fate) (r : OneReply) (rows after : List Row) → in_order (gives_way address_of) rows ≡ true → place ≡ position (holds v) rows
+    → FaresAt place o rows x after → r ≡ one_said x → (fates : List Fate) × AllBefall (holds v) (Some Full) o rows fates after × (one_looks r ≡ looks_of fates)
 reaches v o None x r rows after order is h reply =
-    let none = none_hold (holds v) rows (sym (position_any (holds v) rows) ∙ ap is_some (sym is)) in
-    (nobody rows, subst (AllBefall (holds v) (Some Full) o rows (nobody rows)) (sym h.1) (nobody_all (holds v) (Some Full) o rows none), ap one_looks (reply ∙ ap one_said h.0) ∙ sym (nobody_looks rows))
+    let none = none_hold (holds v) rows (sym (position_any (holds v) rows) ∙ ap is_some (sym is)) in (
+      nobody rows,
+      subst (AllBefall (holds v) (Some Full) o rows (nobody rows)) (sym h.1) (nobody_all (holds v) (Some Full) o rows none),
+      ap one_looks (reply ∙ ap one_said h.0)
+          ∙ sym (nobody_looks rows),
+    )
 reaches v o (Some i) x r rows after order is h reply =
     let only = only_holder v i rows (sym is) order in
     (somebody i x rows, somebody_all (holds v) (Some Full) o i x rows after only h, ap one_looks reply ∙ looks_said x ∙ sym (somebody_looks (holds v) i x rows only))
 
 -- where the row at a place is the holder's, no other row is before it
 
-pub at_holder : (v : Vmac) (rows : List Row) (i : ℕ) → InOrder (λ r s. gives_way address_of r s ≡ true) rows → i < length rows → ((d : Row) → holds v (get_or rows i d) ≡ true) → position (holds v) rows ≡ Some i
+pub at_holder : (v : Vmac) (rows : List Row) (i : ℕ) → InOrder (λ r s. gives_way address_of r s ≡ true) rows → i < length rows → ((d : Row) → holds v (get_or rows i d) ≡ true)
+    → position (holds v) rows ≡ Some i
 at_holder v [] i order within here = absurd (omega arith)
 at_holder v (r ∷ rows) zero order within here = position-cons (holds v) r rows ∙ ap (λ (b : Bool). cond b (Some 0) (option_map (λ i. 1 + i) (position (holds v) rows))) (here r)
 at_holder v (r ∷ rows) (suc i) order within here =
-    let no : holds v r ≡ false = false_from_ne_true (holds v r) (λ h. both_ways (holds v (get_or rows i r)) (all_at (λ y. holds v y ≡ false) rows i (get_or rows i r) (omega arith) (get_or_default rows i r (get_or rows i r) (omega arith)) (behind_holder v r rows h order.0)) (here r)) in
+    let no : holds v r ≡ false = false_from_ne_true (holds v r) (λ h. both_ways (holds v (get_or rows i r))
+    (all_at (λ y. holds v y ≡ false) rows i (get_or rows i r) (omega arith) (get_or_default rows i r (get_or rows i r) (omega arith)) (behind_holder v r rows h order.0)) (here r)) in
     position-cons (holds v) r rows
     ∙ ap (λ (b : Bool). cond b (Some 0) (option_map (λ i. 1 + i) (position (holds v) rows))) no
     ∙ ap (option_map (λ i. 1 + i)) (at_holder v rows i order.1 (omega arith) here)

@@ -1,4 +1,5 @@
 -- Rows that change row by row, or at one place.
+-- It serves clauses of functions of `connecting`, `desk`, `forwarding` and `rows`.
 use Rattle.std.proofs.Common.{◌≡◌, ◌≢◌, ℕ, zero, suc, ◌<◌, ◌==◌, Bool, true, false, cond, List, [], ◌∷◌, length, map, find, get_or, Option, Some, refl, ap, sym, ◌∙◌, subst, arith}
 use Rattle.std.proofs.Math.ListN.{set}
 use Rattle.std.specs.List.{position, AllByRecursion}
@@ -36,7 +37,8 @@ each_all R P Q (r ∷ rows) (s ∷ after) f all h = (f r s all.0 h.0, each_all R
 each_all R P Q rows after f all h = absurd h
 
 -- what R leaves alone in a row, it leaves alone in what a look-up by number finds
-pub each_found : {A : Type 0} (g : Option Row → A) (R : Row → Row → Type 0) (c : ℕ) (rows after : List Row) → ((r s : Row) → R r s → (s.connection ≡ r.connection) × (g (Some s) ≡ g (Some r))) → EachBecomes R rows after → g (find (has_number c) after) ≡ g (find (has_number c) rows)
+pub each_found : {A : Type 0} (g : Option Row → A) (R : Row → Row → Type 0) (c : ℕ) (rows after : List Row)
+    → ((r s : Row) → R r s → (s.connection ≡ r.connection) × (g (Some s) ≡ g (Some r))) → EachBecomes R rows after → g (find (has_number c) after) ≡ g (find (has_number c) rows)
 each_found g R c [] [] f h = refl
 each_found g R c (r ∷ rows) (s ∷ after) f h =
     let same = f r s h.0 in
@@ -65,7 +67,8 @@ OnlyAt t zero (r ∷ rows) = (t r ≡ true) × AllByRecursion (λ y. t y ≡ fal
 OnlyAt t (suc i) (r ∷ rows) = (t r ≡ false) × OnlyAt t i rows
 
 -- then it is a change of the rows that pass
-pub changes_if : (R : Row → Row → Type 0) (t : Row → Bool) (i : ℕ) (rows after : List Row) (T : Bool → Row → Row → Type 0) → ((r s : Row) → R r s → T true r s) → ((r : Row) → T false r r) → OnlyAt t i rows → ChangesAt R i rows after → EachBecomes (λ r s. T (t r) r s) rows after
+pub changes_if : (R : Row → Row → Type 0) (t : Row → Bool) (i : ℕ) (rows after : List Row) (T : Bool → Row → Row → Type 0) → ((r s : Row) → R r s → T true r s) → ((r : Row) → T false r r)
+    → OnlyAt t i rows → ChangesAt R i rows after → EachBecomes (λ r s. T (t r) r s) rows after
 changes_if R t zero (r ∷ rows) (s ∷ after) T f g only h =
     (subst (λ b. T b r s) (sym only.0) (f r s h.0), subst (EachBecomes (λ r s. T (t r) r s) rows) (sym h.1) (stay rows only.1))
   where
@@ -92,7 +95,8 @@ apart_rows [] h = tt
 apart_rows (r ∷ rows) h = (all_map (λ c. r.connection.number ≢ c.number) rows h.0, apart_rows rows h.1)
 
 -- of rows with numbers of their own, only the one at the place passes
-only_here : (c i : ℕ) (rows : List Row) (d : Row) → i < length rows → has_number c (get_or rows i d) ≡ true → ((k : ℕ) → k < i → has_number c (get_or rows k d) ≡ false) → Apart number rows → OnlyAt (has_number c) i rows
+only_here : (c i : ℕ) (rows : List Row) (d : Row) → i < length rows → has_number c (get_or rows i d) ≡ true → ((k : ℕ) → k < i → has_number c (get_or rows k d) ≡ false) → Apart number rows
+    → OnlyAt (has_number c) i rows
 only_here c i [] d within here before apart = absurd (omega arith)
 only_here c zero (r ∷ rows) d within here before apart = (here, others rows apart.0)
   where

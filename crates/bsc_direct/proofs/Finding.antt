@@ -1,4 +1,5 @@
 -- Looking through the slots that are kept finds what looking through the calls does.
+-- It serves clauses of functions of `direct`, `laws` and `path`.
 use Rattle.std.proofs.Common.{◌≡◌, ◌+◌, ℕ, zero, suc, Bool, true, false, cond, List, [], ◌∷◌, length, get_or, find, Option, Some, None, refl, ap, sym, ◌∙◌, arith}
 use Rattle.std.specs.List.{position, range_with_len}
 use Rattle.std.specs.Option.{option_map}
@@ -15,7 +16,8 @@ none_passes p d (x ∷ xs) past h k = by (p x) refl k (none_passes p d xs past) 
     later None g = refl
     later (Some i) g = cc
 
-    by : (b : Bool) → p x ≡ b → (k : ℕ) → (position p xs ≡ None → (k : ℕ) → p (get_or xs k d) ≡ false) → cond b (Some 0) (option_map (λ (i : ℕ). 1 + i) (position p xs)) ≡ None → p (get_or (x ∷ xs) k d) ≡ false
+    by : (b : Bool) → p x ≡ b → (k : ℕ) → (position p xs ≡ None → (k : ℕ) → p (get_or xs k d) ≡ false) → cond b (Some 0) (option_map (λ (i : ℕ). 1 + i) (position p xs)) ≡ None
+        → p (get_or (x ∷ xs) k d) ≡ false
     by true e k rest g = cc
     by false e zero rest g = e
     by false e (suc k) rest g = rest (later (position p xs) g) k
@@ -25,7 +27,8 @@ moved a true o = ap Some (let q : a ≡ a + 0 = omega arith in q)
 moved a false None = refl
 moved a false (Some i) = ap Some (let q : a + 1 + i ≡ a + (1 + i) = omega arith in q)
 
-searched : {X : Type 0} (p : X → Bool) (test : ℕ → Bool) (d : X) (xs : List X) (a : ℕ) → ((k : ℕ) → p (get_or xs k d) ≡ test (a + k)) → find test (range_with_len a (length xs)) ≡ option_map (λ (i : ℕ). a + i) (position p xs)
+searched : {X : Type 0} (p : X → Bool) (test : ℕ → Bool) (d : X) (xs : List X) (a : ℕ) → ((k : ℕ) → p (get_or xs k d) ≡ test (a + k))
+    → find test (range_with_len a (length xs)) ≡ option_map (λ (i : ℕ). a + i) (position p xs)
 searched p test d [] a h = refl
 searched p test d (x ∷ xs) a h =
     let here : test a ≡ p x = ap test (let q : a ≡ a + 0 = omega arith in q) ∙ sym (h 0) in

@@ -1,4 +1,5 @@
 -- What is kept goes on standing for what happened.
+-- It serves clauses of functions of `direct`, `laws` and `path`.
 use Rattle.std.proofs.Common.{◌≡◌, ◌<◌, ◌≤◌, ℕ, zero, suc, Bool, true, false, not, cond, ◌&&◌, List, [], ◌∷◌, ◌++◌, length, replicate, Option, Some, None, is_some, refl, ap, sym, ◌∙◌, subst, arith}
 use Rattle.std.specs.Prelude.{◌==◌}
 use Rattle.std.specs.List.{position}
@@ -19,7 +20,8 @@ use Rattle.bsc_direct.specs.declared.establish.Establish.TheVariants.{Up as IsUp
 use Rattle.bsc_direct.specs.declared.call.SlotCall.{SlotCall}
 use Rattle.bsc_direct.specs.declared.call.SlotCall.TheVariants.{Claim, Up, Release}
 use Rattle.bsc_direct.specs.declared.direct.Direct.{Direct}
-use Rattle.bsc_direct.specs.Slots.{replaces, is_claimed, wanted, established_peer, free_slot, is_peer, established_with, established, is_rival, unless_rival, unless_own, unless_wrong, establish, slots}
+use Rattle.bsc_direct.specs.Slots.{replaces, is_claimed, wanted, established_peer, free_slot, is_peer, established_with, established, is_rival, unless_rival, unless_own}
+use Rattle.bsc_direct.specs.Slots.{unless_wrong, establish, slots}
 use Rattle.bsc_direct.specs.Laws.{PeersAreApart}
 use Rattle.bsc_direct.specs.Kept.{says_claimed, says_wanted, says_peer, without_peer, slot_at, kept_with, establish_kept, slots_without, slots_up}
 use Rattle.bsc_direct.specs.Standing.{SlotStands, DirectStands, StandsOn, IsClaimed, DirectAnswers, and_up}
@@ -110,7 +112,8 @@ abbrev pub Within : Option ℕ → List Slot → Type 0
 Within replaced items = (j : ℕ) → replaced ≡ Some j → j < length items
 
 -- what a slot's loss of its peer leaves as it was
-pub without_same : {A : Type 0} (f : Slot → A) (replaced : Option ℕ) (items : List Slot) (k : ℕ) → ((s : Slot) → f (without_peer s) ≡ f s) → Within replaced items → f (slot_at (slots_without replaced items) k) ≡ f (slot_at items k)
+pub without_same : {A : Type 0} (f : Slot → A) (replaced : Option ℕ) (items : List Slot) (k : ℕ) → ((s : Slot) → f (without_peer s) ≡ f s) → Within replaced items
+    → f (slot_at (slots_without replaced items) k) ≡ f (slot_at items k)
 without_same f None items k keeps within = refl
 without_same f (Some r) items k keeps within = by (r == k) refl
   where
@@ -140,7 +143,8 @@ abbrev pub by_device : Identity → Identity → Bool
 by_device who peer = same_device peer.device who.device
 
 -- the peer of another slot once this one came up
-peer_after : (calls : List SlotCall) (items : List Slot) (slot k : ℕ) (who : Identity) (replaced : Option ℕ) → Stand items calls → PeersAreApart calls → Within replaced items → kept_with (by_device who) items ≡ replaced → (slot == k) ≡ false
+peer_after : (calls : List SlotCall) (items : List Slot) (slot k : ℕ) (who : Identity) (replaced : Option ℕ) → Stand items calls → PeersAreApart calls → Within replaced items
+    → kept_with (by_device who) items ≡ replaced → (slot == k) ≡ false
     → established_peer (calls ++ Up slot who ∷ []) k ≡ says_peer (slot_at (slots_without replaced items) k)
 peer_after calls items slot k who replaced st apart within is n =
     peer-more calls k (Up slot who) refl (ap (λ (b : Bool). cond b (Some who) None) n)
@@ -156,24 +160,29 @@ peer_after calls items slot k who replaced st apart within is n =
     there : (r : ℕ) → kept_with (by_device who) items ≡ Some r → is_peer (by_device who) (says_peer (slot_at items r)) ≡ true
     there r some = (position-Some (λ (s : Slot). is_peer (by_device who) (says_peer s)) items r Free some).1
 
-    free_other : (r : ℕ) → is_peer (by_device who) (says_peer (slot_at items r)) ≡ true → (r == k) ≡ false → (z : Identity) → says_peer (slot_at items k) ≡ Some z → same_device who.device z.device ≡ false
+    free_other : (r : ℕ) → is_peer (by_device who) (says_peer (slot_at items r)) ≡ true → (r == k) ≡ false → (z : Identity) → says_peer (slot_at items k) ≡ Some z
+        → same_device who.device z.device ≡ false
     free_other r here m z e =
         let x = peer_there (by_device who) (says_peer (slot_at items r)) here in
         subst (λ (d : DeviceId). same_device d z.device ≡ false) (device_same x.0.device who.device x.2) (apart r k x.0 z m ((st r).peer ∙ x.1) ((st k).peer ∙ e)).1
 
-    same_here : (r : ℕ) → is_peer (by_device who) (says_peer (slot_at items r)) ≡ true → (r == k) ≡ true → (z : Identity) → says_peer (slot_at items k) ≡ Some z → same_device who.device z.device ≡ true
+    same_here : (r : ℕ) → is_peer (by_device who) (says_peer (slot_at items r)) ≡ true → (r == k) ≡ true → (z : Identity) → says_peer (slot_at items k) ≡ Some z
+        → same_device who.device z.device ≡ true
     same_here r here m z e =
         device_laws.symm who.device z.device ∙ ap (is_peer (by_device who)) (sym e) ∙ ap (λ (j : ℕ). is_peer (by_device who) (says_peer (slot_at items j))) (sym (eqb-true r k m)) ∙ here
 
-    at_place : (r : ℕ) (b : Bool) → (r == k) ≡ b → is_peer (by_device who) (says_peer (slot_at items r)) ≡ true → r < length items → unless_now k (Up slot who) (says_peer (slot_at items k)) ≡ says_peer (slot_at (set items r (without_peer (slot_at items r))) k)
-    at_place r true m here in_list = gone slot k who (says_peer (slot_at items k)) n (same_here r here m) ∙ sym (ap says_peer (set_here items r k (without_peer (slot_at items r)) in_list m) ∙ loses_peer (slot_at items r))
+    at_place : (r : ℕ) (b : Bool) → (r == k) ≡ b → is_peer (by_device who) (says_peer (slot_at items r)) ≡ true → r < length items
+        → unless_now k (Up slot who) (says_peer (slot_at items k)) ≡ says_peer (slot_at (set items r (without_peer (slot_at items r))) k)
+    at_place r true m here in_list = gone slot k who (says_peer (slot_at items k)) n (same_here r here m)
+        ∙ sym (ap says_peer (set_here items r k (without_peer (slot_at items r)) in_list m) ∙ loses_peer (slot_at items r))
     at_place r false m here in_list = beside slot k who (says_peer (slot_at items k)) (free_other r here m) ∙ sym (ap says_peer (set_there items r k (without_peer (slot_at items r)) m))
 
     by : (o : Option ℕ) → kept_with (by_device who) items ≡ o → Within o items → unless_now k (Up slot who) (says_peer (slot_at items k)) ≡ says_peer (slot_at (slots_without o items) k)
     by None none w = beside slot k who (says_peer (slot_at items k)) (free_none none)
     by (Some r) some w = at_place r (r == k) refl (there r some) (w r refl)
 
-up_stands : (calls : List SlotCall) (items : List Slot) (slot : ℕ) (who : Identity) (replaced : Option ℕ) → Stand items calls → PeersAreApart calls → Within replaced items → kept_with (by_device who) items ≡ replaced
+up_stands : (calls : List SlotCall) (items : List Slot) (slot : ℕ) (who : Identity) (replaced : Option ℕ) → Stand items calls → PeersAreApart calls → Within replaced items
+    → kept_with (by_device who) items ≡ replaced
     → slot < length items → says_claimed (slot_at items slot) ≡ true → Stand (slots_up slot who replaced items) (calls ++ Up slot who ∷ [])
 up_stands calls items slot who replaced st apart within is here claimed k = by (slot == k) refl
   where
@@ -188,10 +197,12 @@ up_stands calls items slot who replaced st apart within is here claimed k = by (
         let e : slot ≡ k = eqb-true slot k h in
         let c : says_claimed (slot_at items k) ≡ true = ap (λ (j : ℕ). says_claimed (slot_at items j)) (sym e) ∙ claimed in
         subst (λ (s : Slot). SlotStands (calls ++ Up slot who ∷ []) k s)
-        (sym (set_here (slots_without replaced items) slot k (Established (says_wanted (slot_at (slots_without replaced items) slot)) who) (subst (λ (n : ℕ). slot < n) (sym (length_without replaced items)) here) h))
+        (sym (set_here (slots_without replaced items) slot k (Established (says_wanted (slot_at (slots_without replaced items) slot)) who)
+        (subst (λ (n : ℕ). slot < n) (sym (length_without replaced items)) here) h))
         (record {
           claimed = claimed-kept calls (Up slot who) k refl ∙ (st k).claimed ∙ c;
-          wanted = wanted-kept calls (Up slot who) k refl ∙ (st k).wanted ∙ ap (λ (j : ℕ). says_wanted (slot_at items j)) (sym e) ∙ sym (without_same says_wanted replaced items slot keeps_wanted within);
+          wanted = wanted-kept calls (Up slot who) k refl ∙ (st k).wanted ∙ ap (λ (j : ℕ). says_wanted (slot_at items j)) (sym e)
+              ∙ sym (without_same says_wanted replaced items slot keeps_wanted within);
           peer = peer-up calls k (Up slot who) who refl (ap (λ (b : Bool). cond b (Some who) None) h);
         })
     by false h =
@@ -206,13 +217,17 @@ up_stands calls items slot who replaced st apart within is here claimed k = by (
 -- ---- what looking finds
 
 kept_as_told : (calls : List SlotCall) (items : List Slot) (test : Identity → Bool) → length items ≡ SLOTS → Stand items calls → kept_with test items ≡ established_with test calls
-kept_as_told calls items test len st = found_as_kept (λ (s : Slot). is_peer test (says_peer s)) (λ (k : ℕ). is_peer test (established_peer calls k)) Free items len (λ k. ap (is_peer test) (sym (st k).peer))
+kept_as_told calls items test len st = found_as_kept (λ (s : Slot). is_peer test (says_peer s)) (λ (k : ℕ). is_peer test (established_peer calls k)) Free items len
+    (λ k. ap (is_peer test) (sym (st k).peer))
 
-pub answer_is : (calls : List SlotCall) (items : List Slot) (own : Vmac) (slot : ℕ) (who : Identity) → length items ≡ SLOTS → Stand items calls → establish_kept own items slot who ≡ establish own calls slot who
+pub answer_is : (calls : List SlotCall) (items : List Slot) (own : Vmac) (slot : ℕ) (who : Identity) → length items ≡ SLOTS → Stand items calls
+    → establish_kept own items slot who ≡ establish own calls slot who
 answer_is calls items own slot who len st =
     ap (λ (w : Option Vmac). unless_wrong w who (unless_own (same_vmac who.vmac own) (unless_rival (kept_with (is_rival who) items) (kept_with (by_device who) items)))) (sym (st slot).wanted)
-    ∙ ap (λ (r : Option ℕ). unless_wrong (wanted calls slot) who (unless_own (same_vmac who.vmac own) (unless_rival r (kept_with (by_device who) items)))) (kept_as_told calls items (is_rival who) len st)
-    ∙ ap (λ (d : Option ℕ). unless_wrong (wanted calls slot) who (unless_own (same_vmac who.vmac own) (unless_rival (established_with (is_rival who) calls) d))) (kept_as_told calls items (by_device who) len st)
+    ∙ ap (λ (r : Option ℕ). unless_wrong (wanted calls slot) who (unless_own (same_vmac who.vmac own) (unless_rival r (kept_with (by_device who) items))))
+    (kept_as_told calls items (is_rival who) len st)
+    ∙ ap (λ (d : Option ℕ). unless_wrong (wanted calls slot) who (unless_own (same_vmac who.vmac own) (unless_rival (established_with (is_rival who) calls) d)))
+    (kept_as_told calls items (by_device who) len st)
 
 no_rivals : (calls : List SlotCall) (items : List Slot) (who : Identity) → Stand items calls → kept_with (is_rival who) items ≡ None → HasNoRival calls who
 no_rivals calls items who st none k y e =
@@ -240,24 +255,28 @@ free_at (suc n) (suc k) = free_at n k
 
 pub made : (d : Direct) → d.slots.items ≡ replicate SLOTS Free → DirectStands d []
 made d items = record {
-  slots = λ k. subst (λ (l : List Slot). SlotStands [] k (slot_at l k)) (sym items) (subst (λ (s : Slot). SlotStands [] k s) (sym (free_at SLOTS k)) (record { claimed = refl; wanted = refl; peer = refl }));
+  slots = λ k. subst (λ (l : List Slot). SlotStands [] k (slot_at l k)) (sym items)
+      (subst (λ (s : Slot). SlotStands [] k s) (sym (free_at SLOTS k)) (record { claimed = refl; wanted = refl; peer = refl }));
   apart = λ i j x y n hi hj. some_none x (sym hi);
   unicast = λ k who h. some_none who (sym h);
 }
 
-pub claimed_slot : (old new : Direct) (slot : ℕ) (v : Option Vmac) → length old.slots.items ≡ SLOTS → position (λ s. not (says_claimed s)) old.slots.items ≡ Some slot → new.slots.items ≡ set old.slots.items slot (Claimed v) → IsClaimed old new slot v
+pub claimed_slot : (old new : Direct) (slot : ℕ) (v : Option Vmac) → length old.slots.items ≡ SLOTS → position (λ s. not (says_claimed s)) old.slots.items ≡ Some slot
+    → new.slots.items ≡ set old.slots.items slot (Claimed v) → IsClaimed old new slot v
 claimed_slot old new slot v len placed items calls s =
     let es = old.slots.items in (
       sym (found_as_kept (λ (x : Slot). not (says_claimed x)) (λ (k : ℕ). not (is_claimed calls k)) Free es len (λ k. ap not (sym (s.slots k).claimed))) ∙ placed,
       record {
-        slots = subst (λ (l : List Slot). Stand l (calls ++ Claim slot v ∷ [])) (sym items) (claim_stands calls es slot v (position-Some (λ (x : Slot). not (says_claimed x)) es slot Free placed).0 s.slots);
+        slots = subst (λ (l : List Slot). Stand l (calls ++ Claim slot v ∷ [])) (sym items)
+            (claim_stands calls es slot v (position-Some (λ (x : Slot). not (says_claimed x)) es slot Free placed).0 s.slots);
         apart = quiet-apart calls (Claim slot v) (λ k. refl) (λ k w. refl) s.apart;
         unicast = quiet-unicast calls (Claim slot v) (λ k. refl) (λ k w. refl) s.unicast;
       },
     )
 
 pub none_free : (old : Direct) (calls : List SlotCall) → length old.slots.items ≡ SLOTS → position (λ s. not (says_claimed s)) old.slots.items ≡ None → DirectStands old calls → free_slot calls ≡ None
-none_free old calls len placed s = sym (found_as_kept (λ (x : Slot). not (says_claimed x)) (λ (k : ℕ). not (is_claimed calls k)) Free old.slots.items len (λ k. ap not (sym (s.slots k).claimed))) ∙ placed
+none_free old calls len placed s = sym (found_as_kept (λ (x : Slot). not (says_claimed x)) (λ (k : ℕ). not (is_claimed calls k)) Free old.slots.items len
+    (λ k. ap not (sym (s.slots k).claimed))) ∙ placed
 
 pub released : (old new : Direct) (slot : ℕ) → slot < length old.slots.items → new.slots.items ≡ set old.slots.items slot Free → StandsOn old new (Release slot)
 released old new slot within items calls s = record {
@@ -273,7 +292,8 @@ released_past old slot past calls s = record {
   unicast = quiet-unicast calls (Release slot) (λ k. refl) (λ k w. refl) s.unicast;
 }
 
-pub came_up : (old new : Direct) (own : Vmac) (slot : ℕ) (who : Identity) (replaced : Option ℕ) → length old.slots.items ≡ SLOTS → slot < SLOTS → says_claimed (slot_at old.slots.items slot) ≡ true → same_vmac who.vmac broadcast ≡ false
+pub came_up : (old new : Direct) (own : Vmac) (slot : ℕ) (who : Identity) (replaced : Option ℕ) → length old.slots.items ≡ SLOTS → slot < SLOTS
+    → says_claimed (slot_at old.slots.items slot) ≡ true → same_vmac who.vmac broadcast ≡ false
     → establish_kept own old.slots.items slot who ≡ IsUp replaced → new.slots.items ≡ slots_up slot who replaced old.slots.items → DirectAnswers old new own slot who (IsUp replaced)
 came_up old new own slot who replaced len within claimed unicast is items calls s =
     let es = old.slots.items in

@@ -1,4 +1,5 @@
 -- The established slots stay apart, and none has the broadcast VMAC.
+-- It serves clauses of functions of `direct`, `laws` and `path`.
 use Rattle.std.proofs.Common.{◌≡◌, ℕ, Bool, true, false, not, cond, ◌&&◌, List, [], ◌∷◌, ◌++◌, Some, None, refl, ap, sym, ◌∙◌, subst, arith}
 use Rattle.std.specs.Prelude.{◌==◌}
 use Rattle.bsc_octets.specs.declared.identity.Identity.{Identity}
@@ -13,10 +14,12 @@ use Rattle.bsc_octets.proofs.Common.{vmac_laws}
 use Rattle.std.proofs.lemmas.Option.{same_Some as some_same}
 
 -- a call that establishes nothing
-pub quiet-apart : (calls : List SlotCall) (call : SlotCall) → ((k : ℕ) → peer_by k call ≡ None) → ((k : ℕ) (w : Identity) → replaces k w call ≡ false) → PeersAreApart calls → PeersAreApart (calls ++ call ∷ [])
+pub quiet-apart : (calls : List SlotCall) (call : SlotCall) → ((k : ℕ) → peer_by k call ≡ None) → ((k : ℕ) (w : Identity) → replaces k w call ≡ false) → PeersAreApart calls
+    → PeersAreApart (calls ++ call ∷ [])
 quiet-apart calls call p r apart i j x y n hi hj = apart i j x y n (peer-before calls i call x (p i) (r i) hi) (peer-before calls j call y (p j) (r j) hj)
 
-pub quiet-unicast : (calls : List SlotCall) (call : SlotCall) → ((k : ℕ) → peer_by k call ≡ None) → ((k : ℕ) (w : Identity) → replaces k w call ≡ false) → PeersAreUnicast calls → PeersAreUnicast (calls ++ call ∷ [])
+pub quiet-unicast : (calls : List SlotCall) (call : SlotCall) → ((k : ℕ) → peer_by k call ≡ None) → ((k : ℕ) (w : Identity) → replaces k w call ≡ false) → PeersAreUnicast calls
+    → PeersAreUnicast (calls ++ call ∷ [])
 quiet-unicast calls call p r unicast k who h = unicast k who (peer-before calls k call who (p k) (r k) h)
 
 -- no slot is established for the VMAC of who by another device

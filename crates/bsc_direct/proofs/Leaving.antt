@@ -1,4 +1,5 @@
 -- How a call leaves the slots beside the one that it is about.
+-- It serves the clauses of `claim`, `establish` and `release`.
 use Rattle.std.proofs.Common.{◌≡◌, ◌<◌, ℕ, Bool, true, false, List, length, Option, Some, None, refl, ap, sym, ◌∙◌, subst}
 use Rattle.std.specs.Prelude.{◌==◌}
 use Rattle.std.proofs.Math.ListN.{set}
@@ -51,4 +52,5 @@ pub up_held : (old new : Direct) (slot : ℕ) (who : Identity) (r : Option ℕ) 
 up_held old new slot who r within items =
     let es = old.slots.items in
     let us = slots_without r es in
-    ap (λ (l : List Slot). says_claimed (slot_at l slot)) items ∙ ap says_claimed (set_here us slot slot (Established (says_wanted (slot_at us slot)) who) (subst (λ (n : ℕ). slot < n) (sym (length_without r es)) within) (eq_self slot))
+    ap (λ (l : List Slot). says_claimed (slot_at l slot)) items ∙ ap says_claimed
+    (set_here us slot slot (Established (says_wanted (slot_at us slot)) who) (subst (λ (n : ℕ). slot < n) (sym (length_without r es)) within) (eq_self slot))

@@ -1,4 +1,5 @@
 -- How a slot changes by one call more.
+-- It serves clauses of functions of `direct`, `laws` and `path`.
 use Rattle.std.proofs.Common.{◌≡◌, ℕ, Bool, true, false, not, cond, ◌||◌, ◌&&◌, List, [], ◌∷◌, ◌++◌, Option, Some, None, is_some, refl, ap, sym, ◌∙◌, subst}
 use Rattle.std.specs.Prelude.{◌==◌, unwrap_or}
 use Rattle.std.specs.List.{list_any}
@@ -63,7 +64,8 @@ unless_now k call (Some who) = cond (replaces k who call) None (Some who)
 unless-more : (calls : List SlotCall) (k : ℕ) (call : SlotCall) (o : Option Identity) → peer_by k call ≡ None → unless_replaced k (calls ++ call ∷ []) o ≡ unless_now k call (unless_replaced k calls o)
 unless-more calls k call None p = refl
 unless-more calls k call (Some who) p =
-    rw (ap (λ (xs : List SlotCall). list_any (replaces k who) xs) (since-kept (is_up_call k) calls call (ap (λ (o : Option Identity). is_some o) p)) ∙ list_any-more (replaces k who) (since (is_up_call k) calls) call)
+    rw (ap (λ (xs : List SlotCall). list_any (replaces k who) xs) (since-kept (is_up_call k) calls call (ap (λ (o : Option Identity). is_some o) p))
+    ∙ list_any-more (replaces k who) (since (is_up_call k) calls) call)
     (by (list_any (replaces k who) (since (is_up_call k) calls)))
   where
     by : (b : Bool) → cond (b || replaces k who call) None (Some who) ≡ unless_now k call (cond b None (Some who))
@@ -71,7 +73,8 @@ unless-more calls k call (Some who) p =
     by false = refl
 
 -- A call that is about another slot can only replace the peer.
-pub peer-more : (calls : List SlotCall) (k : ℕ) (call : SlotCall) → clears k call ≡ false → peer_by k call ≡ None → established_peer (calls ++ call ∷ []) k ≡ unless_now k call (established_peer calls k)
+pub peer-more : (calls : List SlotCall) (k : ℕ) (call : SlotCall) → clears k call ≡ false → peer_by k call ≡ None
+    → established_peer (calls ++ call ∷ []) k ≡ unless_now k call (established_peer calls k)
 peer-more calls k call c p =
     let s : peer_since (calls ++ call ∷ []) k ≡ peer_since calls k =
     ap (λ (xs : List SlotCall). newest_of (peer_by k) xs) (since-kept (clears k) calls call c)
@@ -96,7 +99,8 @@ peer-up calls k call who c p =
 -- ---- a call that establishes nothing
 
 -- a peer that is there after the call was there before it
-pub peer-before : (calls : List SlotCall) (k : ℕ) (call : SlotCall) (who : Identity) → peer_by k call ≡ None → ((w : Identity) → replaces k w call ≡ false) → established_peer (calls ++ call ∷ []) k ≡ Some who → established_peer calls k ≡ Some who
+pub peer-before : (calls : List SlotCall) (k : ℕ) (call : SlotCall) (who : Identity) → peer_by k call ≡ None → ((w : Identity) → replaces k w call ≡ false)
+    → established_peer (calls ++ call ∷ []) k ≡ Some who → established_peer calls k ≡ Some who
 peer-before calls k call who p r h = by (clears k call) refl
   where
     same : (o : Option Identity) → unless_now k call o ≡ o
@@ -108,7 +112,8 @@ peer-before calls k call who p r h = by (clears k call) refl
     by false c = sym (same (established_peer calls k)) ∙ sym (peer-more calls k call c p) ∙ h
 
 -- a peer of another slot that is there after a slot came up was there before, and is another device
-pub peer-beside : (calls : List SlotCall) (slot k : ℕ) (who y : Identity) → (slot == k) ≡ false → established_peer (calls ++ Up slot who ∷ []) k ≡ Some y → (established_peer calls k ≡ Some y) × (same_device who.device y.device ≡ false)
+pub peer-beside : (calls : List SlotCall) (slot k : ℕ) (who y : Identity) → (slot == k) ≡ false → established_peer (calls ++ Up slot who ∷ []) k ≡ Some y
+    → (established_peer calls k ≡ Some y) × (same_device who.device y.device ≡ false)
 peer-beside calls slot k who y n h =
     by (established_peer calls k) (sym (peer-more calls k (Up slot who) refl (ap (λ (b : Bool). cond b (Some who) None) n)) ∙ h)
   where

@@ -1,4 +1,5 @@
 -- A body that has a payload: its checks pass, and no other body has that function and payload.
+-- It serves the clauses of `one_check`, `one_spelling` and `read`.
 use Rattle.std.proofs.Common.{◌≡◌, ◌≢◌, ℕ, ◌≤◌, ◌⊎◌, inl, inr, true, false, List, [], ◌∷◌, ◌++◌, length, get_or, drop, refl, sym, ap, ◌∙◌, arith, length-append, if◌then◌else◌}
 use Rattle.std.specs.Prelude.{◌==◌}
 use Rattle.std.specs.Str.{IsUtf8}
@@ -13,7 +14,8 @@ use Rattle.bsc_frame.specs.declared.answer.Answer.{Answer}
 use Rattle.bsc_frame.specs.declared.answer.Answer.TheVariants.{Ack, Nak}
 use Rattle.bsc_frame.specs.declared.advert.Advert.{Advert}
 use Rattle.bsc_frame.specs.declared.body.Body.{Body}
-use Rattle.bsc_frame.specs.declared.body.Body.TheVariants.{BvlcResult, Npdu, AddressResolution, AddressResolutionAck, Advertisement, AdvertisementSolicitation, ConnectRequest, ConnectAccept, DisconnectRequest, DisconnectAck, HeartbeatRequest, HeartbeatAck, Proprietary}
+use Rattle.bsc_frame.specs.declared.body.Body.TheVariants.{BvlcResult, Npdu, AddressResolution, AddressResolutionAck, Advertisement, AdvertisementSolicitation, ConnectRequest}
+use Rattle.bsc_frame.specs.declared.body.Body.TheVariants.{ConnectAccept, DisconnectRequest, DisconnectAck, HeartbeatRequest, HeartbeatAck, Proprietary}
 use Rattle.bsc_frame.specs.Payloads.{function_of, payload_of, advert_octets, HasPayload, IsNode}
 use Rattle.bsc_frame.specs.PayloadChecks.{fixed_part, takes_rest, result_code, IsMissing, IsOutOfRange}
 use Rattle.bsc_frame.specs.Walk.{PayloadFails, payload_checks}
@@ -57,24 +59,30 @@ node_passes f who is node fixed =
     let again = identity_of-octets who node.address node.device node.bvlc node.npdu in
     let vmac : vmac_at p 0 ≡ who.vmac = ap (λ (i : Identity). i.vmac) again in
     pass_whole f p 26 (is_there f p (omega arith)) fixed long
-    (in_range f p (λ e. absurd (elim is [ inl six ↦ omega arith | inr seven ↦ omega arith ])) (λ e. absurd (elim is [ inl six ↦ omega arith | inr seven ↦ omega arith ])) (λ e. absurd (elim is [ inl six ↦ omega arith | inr seven ↦ omega arith ]))
+    (in_range f p (λ e. absurd (elim is [ inl six ↦ omega arith | inr seven ↦ omega arith ])) (λ e. absurd (elim is [ inl six ↦ omega arith | inr seven ↦ omega arith ]))
+    (λ e. absurd (elim is [ inl six ↦ omega arith | inr seven ↦ omega arith ]))
     (λ e. ((λ reserved. node.reserved (sym vmac ∙ reserved)), (λ all. node.broadcast (sym vmac ∙ all)))))
 
 pub body_passes : (body : Body) → HasPayload body → Pass (PayloadFails (function_of body) (payload_of body)) payload_checks
 body_passes (BvlcResult (Ack function)) has =
     let p = function ∷ 0x00 ∷ [] in
-    pass_whole 0 p 2 (is_not_expected 0 p refl) refl refl (in_range 0 p (λ e. (omega arith, (λ nak. absurd (omega arith)))) (λ e. absurd (omega arith)) (λ e. absurd (omega arith)) (λ e. absurd (elim e [ inl six ↦ omega arith | inr seven ↦ omega arith ])))
+    pass_whole 0 p 2 (is_not_expected 0 p refl) refl refl (in_range 0 p (λ e. (omega arith, (λ nak. absurd (omega arith)))) (λ e. absurd (omega arith)) (λ e. absurd (omega arith))
+    (λ e. absurd (elim e [ inl six ↦ omega arith | inr seven ↦ omega arith ])))
 body_passes (BvlcResult (Nak function marker class code details)) has =
     let p = (function ∷ 0x01 ∷ marker ∷ []) ++ big_bytes 2 class ++ big_bytes 2 code ++ details in
-    pass_with_rest 0 p 7 (is_not_expected 0 p refl) refl (omega arith) refl (in_range 0 p (λ e. (omega arith, (λ nak. has.2))) (λ e. absurd (omega arith)) (λ e. absurd (omega arith)) (λ e. absurd (elim e [ inl six ↦ omega arith | inr seven ↦ omega arith ])))
+    pass_with_rest 0 p 7 (is_not_expected 0 p refl) refl (omega arith) refl
+    (in_range 0 p (λ e. (omega arith, (λ nak. has.2))) (λ e. absurd (omega arith)) (λ e. absurd (omega arith)) (λ e. absurd (elim e [ inl six ↦ omega arith | inr seven ↦ omega arith ])))
 body_passes (Npdu npdu) has =
-    pass_with_rest 1 npdu 1 (is_there 1 npdu has) refl has refl (in_range 1 npdu (λ e. absurd (omega arith)) (λ e. absurd (omega arith)) (λ e. absurd (omega arith)) (λ e. absurd (elim e [ inl six ↦ omega arith | inr seven ↦ omega arith ])))
+    pass_with_rest 1 npdu 1 (is_there 1 npdu has) refl has refl (in_range 1 npdu (λ e. absurd (omega arith)) (λ e. absurd (omega arith)) (λ e. absurd (omega arith))
+    (λ e. absurd (elim e [ inl six ↦ omega arith | inr seven ↦ omega arith ])))
 body_passes AddressResolution has = bare_passes 2 (is_not_expected 2 [] refl) refl (λ e. omega arith) (λ e. omega arith) (λ e. omega arith) (λ e. omega arith) (λ e. omega arith)
 body_passes (AddressResolutionAck uris) has =
-    pass_with_rest 3 uris 0 (is_not_expected 3 uris refl) refl (omega arith) refl (in_range 3 uris (λ e. absurd (omega arith)) (λ e. has) (λ e. absurd (omega arith)) (λ e. absurd (elim e [ inl six ↦ omega arith | inr seven ↦ omega arith ])))
+    pass_with_rest 3 uris 0 (is_not_expected 3 uris refl) refl (omega arith) refl
+    (in_range 3 uris (λ e. absurd (omega arith)) (λ e. has) (λ e. absurd (omega arith)) (λ e. absurd (elim e [ inl six ↦ omega arith | inr seven ↦ omega arith ])))
 body_passes (Advertisement advert) has =
     let p = advert_octets advert in
-    pass_whole 4 p 6 (is_there 4 p (omega arith)) refl refl (in_range 4 p (λ e. absurd (omega arith)) (λ e. absurd (omega arith)) (λ e. (has.status, has.accepts)) (λ e. absurd (elim e [ inl six ↦ omega arith | inr seven ↦ omega arith ])))
+    pass_whole 4 p 6 (is_there 4 p (omega arith)) refl refl (in_range 4 p (λ e. absurd (omega arith)) (λ e. absurd (omega arith)) (λ e. (has.status, has.accepts))
+    (λ e. absurd (elim e [ inl six ↦ omega arith | inr seven ↦ omega arith ])))
 body_passes AdvertisementSolicitation has = bare_passes 5 (is_not_expected 5 [] refl) refl (λ e. omega arith) (λ e. omega arith) (λ e. omega arith) (λ e. omega arith) (λ e. omega arith)
 body_passes (ConnectRequest who) has = node_passes 6 who (inl refl) has refl
 body_passes (ConnectAccept who) has = node_passes 7 who (inr refl) has refl
@@ -84,7 +92,8 @@ body_passes HeartbeatRequest has = bare_passes 10 (is_not_expected 10 [] refl) r
 body_passes HeartbeatAck has = bare_passes 11 (is_not_expected 11 [] refl) refl (λ e. omega arith) (λ e. omega arith) (λ e. omega arith) (λ e. omega arith) (λ e. omega arith)
 body_passes (Proprietary vendor function content) has =
     let p = big_bytes 2 vendor ++ function ∷ content in
-    pass_with_rest 12 p 3 (is_there 12 p (omega arith)) refl (omega arith) refl (in_range 12 p (λ e. absurd (omega arith)) (λ e. absurd (omega arith)) (λ e. absurd (omega arith)) (λ e. absurd (elim e [ inl six ↦ omega arith | inr seven ↦ omega arith ])))
+    pass_with_rest 12 p 3 (is_there 12 p (omega arith)) refl (omega arith) refl
+    (in_range 12 p (λ e. absurd (omega arith)) (λ e. absurd (omega arith)) (λ e. absurd (omega arith)) (λ e. absurd (elim e [ inl six ↦ omega arith | inr seven ↦ omega arith ])))
 
 -- ---- one body
 

@@ -1,4 +1,5 @@
 -- Lemmas that crates above cite too.
+-- It serves clauses of functions of `laws`, `lists` and `reading`.
 use Rattle.bsc_frame.specs.Checks.{HasItemAtFault, OfPayload}
 use Rattle.bsc_frame.specs.Layout.{IsList, IsPayload}
 use Rattle.bsc_frame.specs.Walk.{PayloadFails}
@@ -34,7 +35,8 @@ of_payload m f p k is one found = subst (λ (g : ℕ). PayloadFails g p k) is (s
 
 pub same_message : (x y : Message) → x.id ≡ y.id → x.origin ≡ y.origin → x.dest ≡ y.dest → x.dest_options ≡ y.dest_options → x.data_options ≡ y.data_options → x.body ≡ y.body → x ≡ y
 same_message x y id origin dest first second body =
-    let whole : record { id = x.id; origin = x.origin; dest = x.dest; dest_options = x.dest_options; data_options = x.data_options; body = x.body } ≡ y = rw (id, origin, dest, first, second, body) refl in
+    let whole : record { id = x.id; origin = x.origin; dest = x.dest; dest_options = x.dest_options; data_options = x.data_options; body = x.body } ≡ y =
+    rw (id, origin, dest, first, second, body) refl in
     whole
 
 pub same_npdu : (x y : List ℕ) → Npdu x ≡ Npdu y → x ≡ y

@@ -1,4 +1,5 @@
 -- The first check that fails of a Connect-Request or a Connect-Accept.
+-- It serves the clauses of `read_node`.
 use Rattle.std.proofs.Common.{◌≡◌, ℕ, ◌<◌, ◌⊎◌, inl, inr, List, length, refl, sym, ap, ◌∙◌, arith, Bool, true, eqb}
 use Rattle.std.specs.Cmp.Lexicographic.{pointwise, same_text}
 use Rattle.bsc_octets.specs.declared.vmac.Vmac.{Vmac}

@@ -1,4 +1,5 @@
 -- The answers of reading exclude one another.
+-- It serves the clauses of `one_check`, `one_spelling` and `read`.
 use Rattle.std.proofs.Common.{◌≡◌, ℕ, ◌⊎◌, inl, inr, Bool, List, ◌++◌, drop, refl, sym, ap, subst, ◌∙◌}
 use Rattle.std.specs.Prelude.{◌↔◌, Result, Ok, Err}
 use Rattle.std.specs.Result.{MatchResult}
@@ -55,7 +56,8 @@ pub lists_first : (m : List ℕ) (e : Envelope) (k : Check) → HasHead m e → 
 lists_first m e k head first =
     first_later (MessageFails m) head_checks (option_checks ++ payload_checks) k (head_passes m e head) (first_earlier (MessageFails m) option_checks payload_checks k first)
 
-pub payload_first : (m : List ℕ) (e : Envelope) (at end : ℕ) (xs ys : List OptionItem) (k : Check) → HasHead m e → HasLists m e at end xs ys → IsFirstOf payload_checks (PayloadFails e.function (drop end m)) k → IsFirst k m
+pub payload_first : (m : List ℕ) (e : Envelope) (at end : ℕ) (xs ys : List OptionItem) (k : Check) → HasHead m e → HasLists m e at end xs ys
+    → IsFirstOf payload_checks (PayloadFails e.function (drop end m)) k → IsFirst k m
 payload_first m e at end xs ys k head lists first =
     let p = drop end m in
     let are = lists_of m e at end xs ys head lists in
@@ -91,7 +93,8 @@ one_message x y m spells other =
     let lists = lists_of m (head_of x) (dest_end x) (data_end x) x.dest_options x.data_options h (has_lists x m spells) in
     let others = lists_of m (head_of y) (dest_end y) (data_end y) y.dest_options y.data_options g (has_lists y m other) in
     let first = list_one _ m _ x.dest_options y.dest_options (dest_end x) (dest_end y) lists.first others.first in
-    let payload : drop (data_end x) m ≡ drop (data_end y) m = one_payload m (dest_end y) (data_end y) y.dest_options y.data_options (drop (data_end x) m) others (is_payload m (dest_end x) (data_end x) x.dest_options x.data_options lists) in
+    let payload : drop (data_end x) m ≡ drop (data_end y) m = one_payload m (dest_end y) (data_end y) y.dest_options y.data_options (drop (data_end x) m) others
+    (is_payload m (dest_end x) (data_end x) x.dest_options x.data_options lists) in
     let second = list_one _ m (dest_end y) x.data_options y.data_options (data_end x) (data_end y) (rw (← first.1) lists.second) others.second in
     let mine = has_body x m spells in
     let its = has_body y m other in
@@ -108,17 +111,20 @@ pub memory_answers : (m : List ℕ) (r : Result Message FrameFault) (fault : Fra
 memory_answers m r fault e at end xs ys body is none head lists has = rw (is, none) (message_of e xs ys body, spells_by m e at end xs ys body head lists has)
 
 -- the answer of reading the payload
-body_answers : (m : List ℕ) (e : Envelope) (at end : ℕ) (xs ys : List OptionItem) (fault : FrameFault) → HasHead m e → HasLists m e at end xs ys → BodyAnswers e.function (drop end m) (Err fault) → MessageAnswers m (Err fault)
+body_answers : (m : List ℕ) (e : Envelope) (at end : ℕ) (xs ys : List OptionItem) (fault : FrameFault) → HasHead m e → HasLists m e at end xs ys
+    → BodyAnswers e.function (drop end m) (Err fault) → MessageAnswers m (Err fault)
 body_answers m e at end xs ys (Fails k) head lists a = payload_first m e at end xs ys k head lists a
 body_answers m e at end xs ys NoMemory head lists a = (message_of e xs ys a.0, spells_by m e at end xs ys a.0 head lists a.1)
 
-pub payload_answers : (m : List ℕ) (r : Result Message FrameFault) (fault its : FrameFault) (e : Envelope) (at end : ℕ) (xs ys : List OptionItem) (p : List ℕ) → r ≡ Err fault → fault ≡ its → p ≡ drop end m
+pub payload_answers : (m : List ℕ) (r : Result Message FrameFault) (fault its : FrameFault) (e : Envelope) (at end : ℕ) (xs ys : List OptionItem) (p : List ℕ) → r ≡ Err fault → fault ≡ its
+    → p ≡ drop end m
     → HasHead m e → HasLists m e at end xs ys → BodyAnswers e.function p (Err its) → MessageAnswers m r
 payload_answers m r fault its e at end xs ys p is same rest head lists a =
     rw (is, same) (body_answers m e at end xs ys its head lists (subst (λ (q : List ℕ). BodyAnswers e.function q (Err its)) rest a))
 
 -- what the lists were read as
-pub list_answers : (list : List OptionItem) (m : List ℕ) (at end : ℕ) (items : List OptionItem) (b c : Bool) → b ≡ c → ((xs : List OptionItem) (other : ℕ) → IsList b m at xs other → list ≡ xs) → IsList c m at items end → list ≡ items
+pub list_answers : (list : List OptionItem) (m : List ℕ) (at end : ℕ) (items : List OptionItem) (b c : Bool) → b ≡ c
+    → ((xs : List OptionItem) (other : ℕ) → IsList b m at xs other → list ≡ xs) → IsList c m at items end → list ≡ items
 list_answers list m at end items b c same read is = read items end (subst (λ (d : Bool). IsList d m at items end) (sym same) is)
 
 pub message_answers : (m : List ℕ) (e : Envelope) (at end : ℕ) (xs ys : List OptionItem) (body : Body) (list more : List OptionItem) (p : List ℕ) → p ≡ drop end m → list ≡ xs → more ≡ ys

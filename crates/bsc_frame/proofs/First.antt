@@ -1,4 +1,5 @@
 -- The first of some checks that fails.
+-- It serves clauses of most source files here.
 use Rattle.std.proofs.Common.{◌≡◌, Bool, true, false, List, [], ◌∷◌, ◌++◌, refl, sym, ap, subst, ◌∙◌, append_assoc}
 use Rattle.std.specs.List.{AllByRecursion}
 use Rattle.bsc_frame.specs.declared.check.Check.{Check}
@@ -48,9 +49,16 @@ first_earlier fails xs ys k first =
     }
 
 -- the first by another property, where of the checks both hold alike
-pub first_as : (fails also : Check → Type 0) (xs : List Check) (k : Check) → ((check : Check) → fails check → also check) → AllByRecursion (λ check. also check → fails check) xs → IsFirstOf xs fails k → IsFirstOf xs also k
+pub first_as : (fails also : Check → Type 0) (xs : List Check) (k : Check) → ((check : Check) → fails check → also check) → AllByRecursion (λ check. also check → fails check) xs
+    → IsFirstOf xs fails k → IsFirstOf xs also k
 first_as fails also xs k on back first =
-    record { before = first.before; after = first.after; place = first.place; earlier = all first.before (k ∷ first.after) (subst (AllByRecursion (λ check. also check → fails check)) first.place back) first.earlier; fault = on k first.fault }
+    record {
+      before = first.before;
+      after = first.after;
+      place = first.place;
+      earlier = all first.before (k ∷ first.after) (subst (AllByRecursion (λ check. also check → fails check)) first.place back) first.earlier;
+      fault = on k first.fault;
+    }
   where
     all : (l rest : List Check) → AllByRecursion (λ check. also check → fails check) (l ++ rest) → Pass fails l → Pass also l
     all [] rest q p = tt
@@ -65,7 +73,8 @@ pub first_or_none : (fails : Check → Type 0) (xs : List Check) (k : Check) →
 first_or_none fails xs k pass first = passes_at fails first.before k first.after (subst (Pass fails) first.place pass) first.fault
 
 -- one check is the first
-one_of : (fails : Check → Type 0) (before other : List Check) (k j : Check) (after rest : List Check) → Pass fails before → Pass fails other → fails k → fails j → before ++ k ∷ after ≡ other ++ j ∷ rest → k ≡ j
+one_of : (fails : Check → Type 0) (before other : List Check) (k j : Check) (after rest : List Check) → Pass fails before → Pass fails other → fails k → fails j
+    → before ++ k ∷ after ≡ other ++ j ∷ rest → k ≡ j
 one_of fails [] [] k j after rest p q f g e = cc
 one_of fails [] (y ∷ other) k j after rest p q f g e = let same : k ≡ y = cc in absurd (q.0 (subst fails same f))
 one_of fails (x ∷ before) [] k j after rest p q f g e = let same : j ≡ x = cc in absurd (p.0 (subst fails same g))

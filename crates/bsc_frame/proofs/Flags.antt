@@ -1,4 +1,5 @@
 -- The control flags: how they are tested, what a message sets, and that they are no more than that.
+-- It serves the clauses of `one_check`, `one_spelling` and `read`.
 use Rattle.std.proofs.Common.{◌≡◌, ℕ, ◌+◌, ◌*◌, ◌/◌, ◌%◌, ◌≤◌, Bool, true, false, refl, ◌∙◌, arith}
 use Rattle.std.specs.Prelude.{bit_and}
 use Rattle.std.proofs.lemmas.Nat.Bits.{and_pow}

@@ -1,4 +1,5 @@
 -- The envelope of a message, and the checks of it that pass.
+-- It serves clauses of functions of `head`, `laws`, `lists` and `reading`.
 use Rattle.std.proofs.Common.{◌≡◌, ℕ, ◌+◌, ◌<◌, ◌≤◌, Bool, true, false, List, [], ◌∷◌, ◌++◌, length, get_or, drop, Option, Some, None, is_some, IfSome, refl, ap, arith, length-append, if◌then◌else◌}
 use Rattle.bsc_octets.specs.declared.vmac.Vmac.{Vmac}
 use Rattle.bsc_octets.specs.declared.envelope.Envelope.{Envelope}

@@ -1,4 +1,5 @@
 -- Octets, one by one or as a number of two, and the rest behind them.
+-- It serves clauses of most source files here.
 use Rattle.std.proofs.Common.{◌≡◌, ℕ, ◌+◌, ◌<◌, ◌≤◌, List, [], ◌∷◌, ◌++◌, length, get_or, take, drop, refl, sym, ap, ◌∙◌, arith, length-drop}
 use Rattle.std.proofs.lemmas.List.{take-append-drop, get_or-drop, drop-drop, drop_all, append-nil}
 use Rattle.byteorder.specs.Endian.{big_bytes, big_number}
@@ -17,7 +18,8 @@ number_then p at long octets =
 -- the last two octets
 pub number_last : (p : List ℕ) (at : ℕ) → length p ≡ at + 2 → AreOctets p → big_bytes 2 (big_number 2 (drop at p)) ≡ drop at p
 number_last p at long octets =
-    sym (append-nil (big_bytes 2 (big_number 2 (drop at p)))) ∙ ap (λ (l : List ℕ). big_bytes 2 (big_number 2 (drop at p)) ++ l) (sym (drop_all (at + 2) p (omega arith))) ∙ number_then p at (omega arith) octets
+    sym (append-nil (big_bytes 2 (big_number 2 (drop at p)))) ∙ ap (λ (l : List ℕ). big_bytes 2 (big_number 2 (drop at p)) ++ l) (sym (drop_all (at + 2) p (omega arith)))
+    ∙ number_then p at (omega arith) octets
 
 -- the first octets, one by one
 pub two_then : (p : List ℕ) → 2 ≤ length p → get_or p 0 0 ∷ get_or p 1 0 ∷ drop 2 p ≡ p

@@ -1,4 +1,5 @@
 -- Announced lists of header options, and the checks of them that pass.
+-- It serves clauses of functions of `laws`, `lists` and `reading`.
 use Rattle.std.proofs.Common.{◌≡◌, ◌≢◌, ℕ, zero, suc, ◌+◌, ◌≤◌, ◌⊎◌, inl, inr, Bool, true, false, List, [], ◌∷◌, ◌++◌, length, drop, refl, sym, ap, subst, ◌∙◌, arith}
 use Rattle.std.specs.Prelude.{IsTrue, Result, Err}
 use Rattle.std.specs.List.{AllByRecursion}
@@ -39,11 +40,13 @@ list_spelled true m at items end p = p.1.spelling
 list_spelled false m at items end p = rw (p.0, p.1) refl
 
 -- where the items' octets stand, there is the list
-pub list_of : (b : Bool) (m : List ℕ) (at : ℕ) (items : List OptionItem) (rest : List ℕ) → b ≡ has_items items → AllByRecursion HasShape items → drop at m ≡ spelling_of items ++ rest → IsList b m at items (at + length (spelling_of items))
+pub list_of : (b : Bool) (m : List ℕ) (at : ℕ) (items : List OptionItem) (rest : List ℕ) → b ≡ has_items items → AllByRecursion HasShape items → drop at m ≡ spelling_of items ++ rest
+    → IsList b m at items (at + length (spelling_of items))
 list_of b m at [] rest is shapes e = rw is (refl, omega arith)
 list_of b m at (x ∷ xs) rest is shapes e =
     let items = x ∷ xs in
-    let after : drop (at + length (spelling_of items)) m ≡ rest = sym (drop-drop (length (spelling_of items)) at m) ∙ ap (drop (length (spelling_of items))) e ∙ drop_at (spelling_of items) rest (length (spelling_of items)) refl in
+    let after : drop (at + length (spelling_of items)) m ≡ rest = sym (drop-drop (length (spelling_of items)) at m) ∙ ap (drop (length (spelling_of items))) e
+    ∙ drop_at (spelling_of items) rest (length (spelling_of items)) refl in
     rw is (record { some = omega arith; fit = fit_all items shapes }, record { spelling = e ∙ ap (λ (l : List ℕ). spelling_of items ++ l) (sym after); place = refl })
 
 -- the list that another reading found at its place
@@ -56,8 +59,10 @@ pub shapes_of : (b : Bool) (m : List ℕ) (at : ℕ) (xs ys : List OptionItem) (
 shapes_of b m at xs ys end other set are begins p = subst (AllByRecursion HasShape) (list_read b m at xs ys end other set are begins p) are.shapes
 
 -- what a fault says of a list that is whole
-pub item_of_fault : (b : Bool) (m : List ℕ) (at : ℕ) (r : Result ℕ OptionsFault) (fault : OptionsFault) → b ≡ true → (end : ℕ) × (items : List OptionItem) × IsList b m at items end → (r ≡ Err Cut → IsCut m at)
-    → (r ≡ Err BadKind → (item : OptionItem) × IsFirstAtFault m at item × (item.kind ≡ 0)) → (r ≡ Err BadShape → (item : OptionItem) × IsFirstAtFault m at item × (item.kind ≢ 0)) → (r ≢ Err NoMemory) → r ≡ Err fault → HasItemAtFault m at
+pub item_of_fault : (b : Bool) (m : List ℕ) (at : ℕ) (r : Result ℕ OptionsFault) (fault : OptionsFault) → b ≡ true → (end : ℕ) × (items : List OptionItem) × IsList b m at items end
+    → (r ≡ Err Cut → IsCut m at)
+    → (r ≡ Err BadKind → (item : OptionItem) × IsFirstAtFault m at item × (item.kind ≡ 0)) → (r ≡ Err BadShape → (item : OptionItem) × IsFirstAtFault m at item × (item.kind ≢ 0))
+    → (r ≢ Err NoMemory) → r ≡ Err fault → HasItemAtFault m at
 item_of_fault b m at r Cut set whole cut kind shape memory e = absurd (list_not_cut b m at whole.1 whole.0 whole.2 set (cut e))
 item_of_fault b m at r BadKind set whole cut kind shape memory e = let found = kind e in (found.0, found.1)
 item_of_fault b m at r BadShape set whole cut kind shape memory e = let found = shape e in (found.0, found.1)
@@ -70,11 +75,13 @@ pub record AreLists (m : List ℕ) (at : ℕ) (end : ℕ) (xs : List OptionItem)
   pub second : IsList (announces_data_options (flags_in m)) m at ys end
 
 -- the first list, by the flags and the place of the envelope
-pub first_list : (m : List ℕ) (e : Envelope) → HeadFacts m e → (b : Bool) → b ≡ announces_dest_options e.flags → (xs : List OptionItem) (at : ℕ) → IsList b m e.rest_at xs at → IsList (announces_dest_options (flags_in m)) m (options_at m) xs at
+pub first_list : (m : List ℕ) (e : Envelope) → HeadFacts m e → (b : Bool) → b ≡ announces_dest_options e.flags → (xs : List OptionItem) (at : ℕ) → IsList b m e.rest_at xs at
+    → IsList (announces_dest_options (flags_in m)) m (options_at m) xs at
 first_list m e facts b is xs at p =
     subst (λ (c : Bool). IsList c m (options_at m) xs at) (is ∙ ap announces_dest_options (sym facts.flags)) (subst (λ (place : ℕ). IsList b m place xs at) (sym facts.place) p)
 
-pub are_lists : (m : List ℕ) (e : Envelope) → HeadFacts m e → (b c : Bool) → b ≡ announces_dest_options e.flags → c ≡ announces_data_options e.flags → (xs ys : List OptionItem) (at end : ℕ) → IsList b m e.rest_at xs at → IsList c m at ys end → AreLists m at end xs ys
+pub are_lists : (m : List ℕ) (e : Envelope) → HeadFacts m e → (b c : Bool) → b ≡ announces_dest_options e.flags → c ≡ announces_data_options e.flags → (xs ys : List OptionItem) (at end : ℕ)
+    → IsList b m e.rest_at xs at → IsList c m at ys end → AreLists m at end xs ys
 are_lists m e facts b c is also xs ys at end p q =
     record {
       first = first_list m e facts b is xs at p;
@@ -121,7 +128,8 @@ pub first_bad : (m : List ℕ) (at end : ℕ) (xs ys : List OptionItem) → AreL
 first_bad m at end xs ys lists bad = record { before = C7 ∷ []; after = C8 ∷ []; place = refl; earlier = (no_octets_lack m at end xs ys lists, tt); fault = bad }
 
 -- data options on a function of its envelope that takes none
-pub misplaced : (m : List ℕ) (e : Envelope) → HeadFacts m e → (c : Bool) → c ≡ announces_data_options e.flags → c ≡ true → e.function ≤ 0x0C → e.function ≢ 0x01 → e.function ≢ 0x0C → HasMisplacedDataOptions m
+pub misplaced : (m : List ℕ) (e : Envelope) → HeadFacts m e → (c : Bool) → c ≡ announces_data_options e.flags → c ≡ true → e.function ≤ 0x0C → e.function ≢ 0x01 → e.function ≢ 0x0C
+    → HasMisplacedDataOptions m
 misplaced m e facts c also set low npdu own = (ap announces_data_options facts.flags ∙ sym also ∙ set, by e.function refl)
   where
     by : (f : ℕ) → e.function ≡ f → (function_in m ≡ 0x00) ⊎ ((0x02 ≤ function_in m) × (function_in m ≤ 0x0B))
@@ -129,9 +137,11 @@ misplaced m e facts c also set low npdu own = (ap announces_data_options facts.f
     by (suc zero) is = absurd (npdu is)
     by (suc (suc f)) is = let same = facts.function in inr (omega arith, (let other : e.function ≡ 12 → ⊥ = own in omega arith))
 
-pub well : (m : List ℕ) (e : Envelope) → HeadFacts m e → (c : Bool) → c ≡ announces_data_options e.flags → (c ≡ true → TakesDataOptions e.function) → IsTrue (announces_data_options (flags_in m)) → TakesDataOptions (function_in m)
+pub well : (m : List ℕ) (e : Envelope) → HeadFacts m e → (c : Bool) → c ≡ announces_data_options e.flags → (c ≡ true → TakesDataOptions e.function)
+    → IsTrue (announces_data_options (flags_in m)) → TakesDataOptions (function_in m)
 well m e facts c also place set = subst TakesDataOptions (sym facts.function) (place (also ∙ ap announces_data_options (sym facts.flags) ∙ set))
 
-pub first_misplaced : (m : List ℕ) (at end : ℕ) (xs ys : List OptionItem) → AreLists m at end xs ys → AllByRecursion HasShape xs → AllByRecursion HasShape ys → HasMisplacedDataOptions m → IsFirstOf option_checks (MessageFails m) C8
+pub first_misplaced : (m : List ℕ) (at end : ℕ) (xs ys : List OptionItem) → AreLists m at end xs ys → AllByRecursion HasShape xs → AllByRecursion HasShape ys → HasMisplacedDataOptions m
+    → IsFirstOf option_checks (MessageFails m) C8
 first_misplaced m at end xs ys lists shapes others wrong =
     record { before = C7 ∷ C7b ∷ []; after = []; place = refl; earlier = (no_octets_lack m at end xs ys lists, (no_bad_option m at end xs ys lists shapes others, tt)); fault = wrong }

@@ -1,4 +1,5 @@
 -- What is read of a payload is spelled by it, and what is answered where memory runs out.
+-- It serves clauses of most source files here.
 use Rattle.std.proofs.Common.{◌≡◌, ℕ, ◌≤◌, List, [], ◌∷◌, ◌++◌, length, get_or, drop, refl, sym, ap, ◌∙◌, arith}
 use Rattle.std.specs.Prelude.{Result, Err}
 use Rattle.byteorder.specs.Endian.{big_bytes, big_number}

@@ -1,4 +1,5 @@
 -- A message by its parts: its envelope, its lists and its payload, from what was read to its spelling and back.
+-- It serves the clauses of `one_check`, `one_spelling` and `read`.
 use Rattle.std.proofs.Common.{◌≡◌, ℕ, ◌+◌, ◌<◌, ◌≤◌, Bool, true, List, [], ◌∷◌, ◌++◌, length, drop, is_some, refl, sym, ap, subst, ◌∙◌, arith, append_assoc, length-append}
 use Rattle.std.specs.Prelude.{IsTrue}
 use Rattle.std.proofs.lemmas.List.{drop_at, drop-drop}
@@ -41,7 +42,8 @@ flags_are m e at end xs ys body head lists =
 some_announced : (b : Bool) (m : List ℕ) (at : ℕ) (items : List OptionItem) (end : ℕ) → IsList b m at items end → 0 < length items → IsTrue b
 some_announced b m at items end list some = list_announced b m at items end list ∙ has_items-some items some
 
-pub spells_by : (m : List ℕ) (e : Envelope) (at end : ℕ) (xs ys : List OptionItem) (body : Body) → HasHead m e → HasLists m e at end xs ys → IsBody e.function (drop end m) body → Spells (message_of e xs ys body) m
+pub spells_by : (m : List ℕ) (e : Envelope) (at end : ℕ) (xs ys : List OptionItem) (body : Body) → HasHead m e → HasLists m e at end xs ys → IsBody e.function (drop end m) body
+    → Spells (message_of e xs ys body) m
 spells_by m e at end xs ys body head lists is =
     let first = spelling_of xs in
     let second = spelling_of ys in
@@ -151,7 +153,8 @@ has_lists msg m spells =
     let at = places msg m spells.octets in
     let legal = spells.legal in
     record {
-      dest_list = list_of (announces_dest_options (flags_of msg)) m (head_of msg).rest_at msg.dest_options (spelling_of msg.data_options ++ payload_of msg.body) flags.dest_options legal.dest_options at.rest;
+      dest_list = list_of (announces_dest_options (flags_of msg)) m (head_of msg).rest_at msg.dest_options
+          (spelling_of msg.data_options ++ payload_of msg.body) flags.dest_options legal.dest_options at.rest;
       data_list = list_of (announces_data_options (flags_of msg)) m (dest_end msg) msg.data_options (payload_of msg.body) flags.data_options legal.data_options at.second;
       dest_shapes = legal.dest_options;
       data_shapes = legal.data_options;

@@ -1,4 +1,5 @@
 -- Messages written out in octets, with what the definitions make of them.
+-- No clause needs it: worked examples.
 use Rattle.std.proofs.Common.{◌≡◌, true, false, [], ◌∷◌, ◌++◌, Some, None, replicate, refl, arith}
 use Rattle.bsc_octets.specs.declared.vmac.Vmac.{Vmac}
 use Rattle.bsc_octets.specs.Addresses.{broadcast}
@@ -22,13 +23,16 @@ may = record { must = false; kind = 1; content = None }
 
 -- ---- messages
 
-npdu_with_options : spelling (record { id = 1; origin = None; dest = None; dest_options = must ∷ []; data_options = must ∷ may ∷ []; body = Npdu (0x00 ∷ []) }) ≡ 0x01 ∷ 0x03 ∷ 0x00 ∷ 0x01 ∷ 0x41 ∷ 0xC1 ∷ 0x01 ∷ 0x00 ∷ []
+npdu_with_options : spelling (record { id = 1; origin = None; dest = None; dest_options = must ∷ []; data_options = must ∷ may ∷ []; body = Npdu (0x00 ∷ []) })
+    ≡ 0x01 ∷ 0x03 ∷ 0x00 ∷ 0x01 ∷ 0x41 ∷ 0xC1 ∷ 0x01 ∷ 0x00 ∷ []
 npdu_with_options = refl
 
-npdu_to_all : spelling (record { id = 2; origin = Some node; dest = Some broadcast; dest_options = []; data_options = []; body = Npdu (0x01 ∷ 0x00 ∷ []) }) ≡ (0x01 ∷ 0x0C ∷ 0x00 ∷ 0x02 ∷ []) ++ node.0 ++ replicate 6 0xFF ++ 0x01 ∷ 0x00 ∷ []
+npdu_to_all : spelling (record { id = 2; origin = Some node; dest = Some broadcast; dest_options = []; data_options = []; body = Npdu (0x01 ∷ 0x00 ∷ []) })
+    ≡ (0x01 ∷ 0x0C ∷ 0x00 ∷ 0x02 ∷ []) ++ node.0 ++ replicate 6 0xFF ++ 0x01 ∷ 0x00 ∷ []
 npdu_to_all = refl
 
-nak : spelling (record { id = 9; origin = None; dest = None; dest_options = []; data_options = []; body = BvlcResult (Nak 0x0D 0x00 7 143 []) }) ≡ 0x00 ∷ 0x00 ∷ 0x00 ∷ 0x09 ∷ 0x0D ∷ 0x01 ∷ 0x00 ∷ 0x00 ∷ 0x07 ∷ 0x00 ∷ 0x8F ∷ []
+nak : spelling (record { id = 9; origin = None; dest = None; dest_options = []; data_options = []; body = BvlcResult (Nak 0x0D 0x00 7 143 []) })
+    ≡ 0x00 ∷ 0x00 ∷ 0x00 ∷ 0x09 ∷ 0x0D ∷ 0x01 ∷ 0x00 ∷ 0x00 ∷ 0x07 ∷ 0x00 ∷ 0x8F ∷ []
 nak = refl
 
 ack : spelling (record { id = 10; origin = None; dest = None; dest_options = []; data_options = []; body = BvlcResult (Ack 0x0A) }) ≡ 0x00 ∷ 0x00 ∷ 0x00 ∷ 0x0A ∷ 0x0A ∷ 0x00 ∷ []
@@ -37,15 +41,30 @@ ack = refl
 no_uris : spelling (record { id = 0x11; origin = None; dest = Some node; dest_options = []; data_options = []; body = AddressResolutionAck [] }) ≡ (0x03 ∷ 0x04 ∷ 0x00 ∷ 0x11 ∷ []) ++ node.0
 no_uris = refl
 
-advertisement : spelling (record { id = 2; origin = None; dest = None; dest_options = []; data_options = []; body = Advertisement (record { status = 1; accepts = 0; max_bvlc = 1600; max_npdu = 1497 }) })
+advertisement : spelling (record {
+  id = 2;
+  origin = None;
+  dest = None;
+  dest_options = [];
+  data_options = [];
+  body = Advertisement (record { status = 1; accepts = 0; max_bvlc = 1600; max_npdu = 1497 });
+})
     ≡ 0x04 ∷ 0x00 ∷ 0x00 ∷ 0x02 ∷ 0x01 ∷ 0x00 ∷ 0x06 ∷ 0x40 ∷ 0x05 ∷ 0xD9 ∷ []
 advertisement = refl
 
-connect : spelling (record { id = 1; origin = None; dest = None; dest_options = []; data_options = []; body = ConnectRequest (record { vmac = node; device = record { 0 = replicate 16 0xAA }; max_bvlc = 1600; max_npdu = 1497 }) })
+connect : spelling (record {
+  id = 1;
+  origin = None;
+  dest = None;
+  dest_options = [];
+  data_options = [];
+  body = ConnectRequest (record { vmac = node; device = record { 0 = replicate 16 0xAA }; max_bvlc = 1600; max_npdu = 1497 });
+})
     ≡ (0x06 ∷ 0x00 ∷ 0x00 ∷ 0x01 ∷ []) ++ node.0 ++ replicate 16 0xAA ++ 0x06 ∷ 0x40 ∷ 0x05 ∷ 0xD9 ∷ []
 connect = refl
 
-proprietary : spelling (record { id = 3; origin = None; dest = None; dest_options = []; data_options = may ∷ []; body = Proprietary 260 5 (0xAA ∷ []) }) ≡ 0x0C ∷ 0x01 ∷ 0x00 ∷ 0x03 ∷ 0x01 ∷ 0x01 ∷ 0x04 ∷ 0x05 ∷ 0xAA ∷ []
+proprietary : spelling (record { id = 3; origin = None; dest = None; dest_options = []; data_options = may ∷ []; body = Proprietary 260 5 (0xAA ∷ []) })
+    ≡ 0x0C ∷ 0x01 ∷ 0x00 ∷ 0x03 ∷ 0x01 ∷ 0x01 ∷ 0x04 ∷ 0x05 ∷ 0xAA ∷ []
 proprietary = refl
 
 heartbeat : spelling (record { id = 0x1234; origin = None; dest = None; dest_options = []; data_options = []; body = HeartbeatAck }) ≡ 0x0B ∷ 0x00 ∷ 0x12 ∷ 0x34 ∷ []

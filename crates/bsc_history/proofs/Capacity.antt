@@ -1,5 +1,7 @@
 -- An outbox holds no more than its capacity.
-use Rattle.std.proofs.Common.{◌≡◌, ◌≢◌, ◌⊎◌, inl, inr, ℕ, ◌+◌, ◌-◌, ◌≤◌, ◌==◌, nat_le, Bool, true, false, not, ◌&&◌, ◌||◌, cond, List, [], ◌∷◌, ◌++◌, length, map, filter, fold, is_some, is_none, refl, ap, sym, ◌∙◌, subst, arith, length-append}
+-- It serves the clauses of `within`.
+use Rattle.std.proofs.Common.{◌≡◌, ◌≢◌, ◌⊎◌, inl, inr, ℕ, ◌+◌, ◌-◌, ◌≤◌, ◌==◌, nat_le, Bool, true, false, not, ◌&&◌, ◌||◌, cond, List, [], ◌∷◌, ◌++◌, length, map, filter, fold}
+use Rattle.std.proofs.Common.{is_some, is_none, refl, ap, sym, ◌∙◌, subst, arith, length-append}
 use Rattle.std.specs.List.{list_any, list_all}
 use Rattle.std.proofs.lemmas.Bool.{eq-eqb, false_from_ne_true, eqb-true, eqb-false, leb-true, both_ways, and_parts, or_cases, or_parts, not-true, or_right}
 use Rattle.bsc_history.specs.declared.limits.About.{About}
@@ -19,10 +21,12 @@ use Rattle.bsc_history.proofs.Named.{none_live, live_until_ended}
 use Rattle.bsc_history.proofs.More.{along, sent-more, looked-more}
 
 -- the newest of some looks at c is one of them, or there is none
-pub newest_of : (c : ℕ) (looks : List Look) (n : ℕ) → ((k : Look) × In k looks × (k.conn ≡ c) × (fold (newer c) n looks ≡ k.taken)) ⊎ ((is_among c (map (λ k. k.conn) looks) ≡ false) × (fold (newer c) n looks ≡ n))
+pub newest_of : (c : ℕ) (looks : List Look) (n : ℕ) → ((k : Look) × In k looks × (k.conn ≡ c) × (fold (newer c) n looks ≡ k.taken))
+    ⊎ ((is_among c (map (λ k. k.conn) looks) ≡ false) × (fold (newer c) n looks ≡ n))
 newest_of c [] n = inr (refl, refl)
 newest_of c (k ∷ ks) n =
-    let Goal = λ (b : Bool). ((l : Look) × In l (k ∷ ks) × (l.conn ≡ c) × (fold (newer c) (cond b k.taken n) ks ≡ l.taken)) ⊎ (((b || is_among c (map (λ l. l.conn) ks)) ≡ false) × (fold (newer c) (cond b k.taken n) ks ≡ n)) in
+    let Goal = λ (b : Bool). ((l : Look) × In l (k ∷ ks) × (l.conn ≡ c) × (fold (newer c) (cond b k.taken n) ks ≡ l.taken))
+    ⊎ (((b || is_among c (map (λ l. l.conn) ks)) ≡ false) × (fold (newer c) (cond b k.taken n) ks ≡ n)) in
     let by : (b : Bool) → (k.conn == c) ≡ b → Goal b = λ b. elim b as (λ b. (k.conn == c) ≡ b → Goal b) [
       | true ↦ λ e. elim (newest_of c ks k.taken) [ inl r ↦ inl (r.0, inr r.1, r.2, r.3) | inr r ↦ inl (k, inl refl, eqb-true k.conn c e, r.1) ]
       | false ↦ λ e. elim (newest_of c ks n) [ inl r ↦ inl (r.0, inr r.1, r.2, r.3) | inr r ↦ inr r ]
@@ -40,7 +44,8 @@ none_In t k (l ∷ ls) h (inl e) = subst (λ x. t x ≡ false) e (or_parts (t l)
 none_In t k (l ∷ ls) h (inr m) = none_In t k ls (or_parts (t l) (list_any t ls) h).1 m
 
 -- where one takes the frame, no look finds it full, and it is among those that the frame isn't too long for
-taker : (a : About) (o : List ℕ) (entered : List (List ℕ)) (looks : List Look) (c : ℕ) (xs : List Connection) → list_any (takes a o entered looks c) xs ≡ true → (is_found_full a entered looks c ≡ false) × (is_among c (numbers (filter (λ x. not (is_too_long o x)) xs)) ≡ true)
+taker : (a : About) (o : List ℕ) (entered : List (List ℕ)) (looks : List Look) (c : ℕ) (xs : List Connection) → list_any (takes a o entered looks c) xs ≡ true
+    → (is_found_full a entered looks c ≡ false) × (is_among c (numbers (filter (λ x. not (is_too_long o x)) xs)) ≡ true)
 taker a o entered looks c [] h = cc
 taker a o entered looks c (x ∷ xs) h =
     elim (or_cases (takes a o entered looks c x) (list_any (takes a o entered looks c) xs) h) [
@@ -49,21 +54,27 @@ taker a o entered looks c (x ∷ xs) h =
           let no = or_parts (is_too_long o x) (is_found_full a entered looks c) (not-true (is_too_long o x || is_found_full a entered looks c) two.1) in
           (no.1, rw (no.0, two.0) refl))
       | inr later ↦ (
-          let r = taker a o entered looks c xs later in
-          (r.0, elim (is_too_long o x) as (λ b. is_among c (numbers (cond (not b) (x ∷ filter (λ y. not (is_too_long o y)) xs) (filter (λ y. not (is_too_long o y)) xs))) ≡ true) [ true ↦ r.1 | false ↦ or_right (x.number == c) (is_among c (numbers (filter (λ y. not (is_too_long o y)) xs))) r.1 ]))
+          let r = taker a o entered looks c xs later in (
+            r.0,
+            elim (is_too_long o x) as (λ b. is_among c (numbers (cond (not b) (x ∷ filter (λ y. not (is_too_long o y)) xs) (filter (λ y. not (is_too_long o y)) xs)))
+                ≡ true) [ true ↦ r.1 | false ↦ or_right (x.number == c) (is_among c (numbers (filter (λ y. not (is_too_long o y)) xs))) r.1 ],
+          ))
     ]
 
 -- what a lawful entry adds to c is nothing, or one frame where a look at c finds room
-grows : (a : About) (H : List Entry) (entered : List (List ℕ)) (c : ℕ) (call : Call) (looks : List Look) → Legal a H → map (λ k. k.conn) looks ≡ looks_at H call → (length (added_by a H entered c call looks) ≡ 0) ⊎ ((length (added_by a H entered c call looks) ≡ 1) × (is_found_full a entered looks c ≡ false) × (is_among c (map (λ k. k.conn) looks) ≡ true))
+grows : (a : About) (H : List Entry) (entered : List (List ℕ)) (c : ℕ) (call : Call) (looks : List Look) → Legal a H → map (λ k. k.conn) looks ≡ looks_at H call
+    → (length (added_by a H entered c call looks) ≡ 0) ⊎ ((length (added_by a H entered c call looks) ≡ 1) × (is_found_full a entered looks c ≡ false) × (is_among c (map (λ k. k.conn) looks) ≡ true))
 unfolding added_by
 grows a H entered c (Forward sender m) looks legal named =
     let o = out_of H sender m in
     let Goal = λ (n : ℕ). (n ≡ 0) ⊎ ((n ≡ 1) × (is_found_full a entered looks c ≡ false) × (is_among c (map (λ k. k.conn) looks) ≡ true)) in
-    let by : (b : Bool) → (is_live H sender && list_any (takes a o entered looks c) (meant H sender m)) ≡ b → Goal (length (cond b (o ∷ []) [])) = λ b. elim b as (λ b. (is_live H sender && list_any (takes a o entered looks c) (meant H sender m)) ≡ b → Goal (length (cond b (o ∷ []) []))) [
+    let by : (b : Bool) → (is_live H sender && list_any (takes a o entered looks c) (meant H sender m)) ≡ b
+    → Goal (length (cond b (o ∷ []) [])) = λ b. elim b as (λ b. (is_live H sender && list_any (takes a o entered looks c) (meant H sender m)) ≡ b → Goal (length (cond b (o ∷ []) []))) [
       | true ↦ λ e. (
           let two = and_parts (is_live H sender) (list_any (takes a o entered looks c) (meant H sender m)) e in
           let r = taker a o entered looks c (meant H sender m) two.1 in
-          let open_hub : is_stopped H ≡ false = false_from_ne_true (is_stopped H) (λ s. both_ways (is_live H sender) (ap (λ (l : List Connection). is_some (numbered sender l)) (none_live a H legal s)) two.0) in
+          let open_hub : is_stopped H ≡ false = false_from_ne_true (is_stopped H)
+          (λ s. both_ways (is_live H sender) (ap (λ (l : List Connection). is_some (numbered sender l)) (none_live a H legal s)) two.0) in
           let unended : is_none (ended H sender) ≡ true = (and_parts (list_any (joins sender) H) (is_none (ended H sender)) (sym (live_until_ended a H legal sender) ∙ two.0)).1 in
           let at : looks_at H (Forward sender m) ≡ numbers (filter (λ x. not (is_too_long o x)) (meant H sender m)) = rw (open_hub, unended) refl in
           inr (refl, r.0, ap (is_among c) (named ∙ at) ∙ r.1))

@@ -1,4 +1,5 @@
 -- How a connection has ended stands for good, and has a cause that names the connection.
+-- It serves the clauses of `end_stays` and `ends_by_cause`.
 use Rattle.std.proofs.Common.{◌≡◌, ℕ, ◌==◌, Bool, true, false, ◌&&◌, cond, if◌then◌else◌, List, [], ◌∷◌, ◌++◌, Option, Some, None, is_none, refl, ap, sym, ◌∙◌, subst, append_assoc}
 use Rattle.std.specs.List.{list_any}
 use Rattle.std.specs.Option.{option_or}
@@ -30,7 +31,8 @@ use Rattle.bsc_history.proofs.Named.{live_until_ended}
 first_end_stays : (c : ℕ) (ending : End) (es more : List Entry) → first_end c es ≡ Some ending → first_end c (es ++ more) ≡ Some ending
 first_end_stays c ending [] more h = cc
 first_end_stays c ending (e ∷ es) more h =
-    let on : (o : Option End) → option_or o (first_end c es) ≡ Some ending → option_or o (first_end c (es ++ more)) ≡ Some ending = λ o. elim o as (λ o. option_or o (first_end c es) ≡ Some ending → option_or o (first_end c (es ++ more)) ≡ Some ending) [
+    let on : (o : Option End) → option_or o (first_end c es) ≡ Some ending
+    → option_or o (first_end c (es ++ more)) ≡ Some ending = λ o. elim o as (λ o. option_or o (first_end c es) ≡ Some ending → option_or o (first_end c (es ++ more)) ≡ Some ending) [
       | None ↦ λ k. first_end_stays c ending es more k
       | Some w ↦ λ k. k
     ] in
@@ -40,7 +42,9 @@ pub end_stays : (H : List Entry) → EndStays H
 unfolding ended
 end_stays [] c ending more h = cc
 end_stays (e ∷ H) c ending more h =
-    let by : (b : Bool) → cond b (first_end c H) (ended H c) ≡ Some ending → cond b (first_end c (H ++ more)) (ended (H ++ more) c) ≡ Some ending = λ b. elim b as (λ b. cond b (first_end c H) (ended H c) ≡ Some ending → cond b (first_end c (H ++ more)) (ended (H ++ more) c) ≡ Some ending) [
+    let by : (b : Bool) → cond b (first_end c H) (ended H c) ≡ Some ending
+    → cond b (first_end c (H ++ more)) (ended (H ++ more) c) ≡ Some ending =
+    λ b. elim b as (λ b. cond b (first_end c H) (ended H c) ≡ Some ending → cond b (first_end c (H ++ more)) (ended (H ++ more) c) ≡ Some ending) [
       | true ↦ λ k. first_end_stays c ending H more k
       | false ↦ λ k. end_stays H c ending more k
     ] in
@@ -49,26 +53,31 @@ end_stays (e ∷ H) c ending more h =
 -- the cause of an End
 
 -- a Connect ends the one that it replaced
-connect_cause : (s u f : Bool) (r : Option ℕ) (rows n : ℕ) (o : Option ℕ) (c : ℕ) (w : End) → end_by_reply c (if s then Refused RefusedStopped else if u then Refused (Duplicate None) else refused_as_held r (if f then Refused (TableFull rows) else Joined n o)) ≡ Some w → (w ≡ Replaced) × ((if s then Refused RefusedStopped else if u then Refused (Duplicate None) else refused_as_held r (if f then Refused (TableFull rows) else Joined n o)) ≡ Joined n (Some c))
+connect_cause : (s u f : Bool) (r : Option ℕ) (rows n : ℕ) (o : Option ℕ) (c : ℕ) (w : End)
+    → end_by_reply c (if s then Refused RefusedStopped else if u then Refused (Duplicate None) else refused_as_held r (if f then Refused (TableFull rows) else Joined n o)) ≡ Some w
+    → (w ≡ Replaced) × ((if s then Refused RefusedStopped else if u then Refused (Duplicate None) else refused_as_held r (if f then Refused (TableFull rows) else Joined n o)) ≡ Joined n (Some c))
 connect_cause true u f r rows n o c w h = cc
 connect_cause false true f r rows n o c w h = cc
 connect_cause false false f (Some k) rows n o c w h = cc
 connect_cause false false true None rows n o c w h = cc
 connect_cause false false false None rows n None c w h = cc
 connect_cause false false false None rows n (Some k) c w h =
-    let by : (b : Bool) → (k == c) ≡ b → cond b (Some Replaced) None ≡ Some w → (w ≡ Replaced) × (Joined n (Some k) ≡ Joined n (Some c)) = λ b. elim b as (λ b. (k == c) ≡ b → cond b (Some Replaced) None ≡ Some w → (w ≡ Replaced) × (Joined n (Some k) ≡ Joined n (Some c))) [
+    let by : (b : Bool) → (k == c) ≡ b → cond b (Some Replaced) None ≡ Some w → (w ≡ Replaced)
+    × (Joined n (Some k) ≡ Joined n (Some c)) = λ b. elim b as (λ b. (k == c) ≡ b → cond b (Some Replaced) None ≡ Some w → (w ≡ Replaced) × (Joined n (Some k) ≡ Joined n (Some c))) [
       | true ↦ λ e g. (cc, ap (λ (j : ℕ). Joined n (Some j)) (eqb-true k c e))
       | false ↦ λ e g. cc
     ] in
     by (k == c) refl h
 
 -- a unicast ends its holder, where it finds it full
-unicast_cause : (a : About) (H : List Entry) (m o : List ℕ) (looks : List Look) (r : Option Connection) (c : ℕ) (w : End) → end_by_reply c (unicast_reply a H m o looks r) ≡ Some w → (w ≡ Full) × (unicast_reply a H m o looks r ≡ Closed c)
+unicast_cause : (a : About) (H : List Entry) (m o : List ℕ) (looks : List Look) (r : Option Connection) (c : ℕ) (w : End) → end_by_reply c (unicast_reply a H m o looks r) ≡ Some w
+    → (w ≡ Full) × (unicast_reply a H m o looks r ≡ Closed c)
 unicast_cause a H m o looks None c w h = cc
 unicast_cause a H m o looks (Some x) c w h =
     let n = x.number in
     let Goal = λ (r : Reply). end_by_reply c r ≡ Some w → (w ≡ Full) × (r ≡ Closed c) in
-    let closed : (b : Bool) → (n == c) ≡ b → cond b (Some Full) None ≡ Some w → (w ≡ Full) × (Closed n ≡ Closed c) = λ b. elim b as (λ b. (n == c) ≡ b → cond b (Some Full) None ≡ Some w → (w ≡ Full) × (Closed n ≡ Closed c)) [
+    let closed : (b : Bool) → (n == c) ≡ b → cond b (Some Full) None ≡ Some w → (w ≡ Full)
+    × (Closed n ≡ Closed c) = λ b. elim b as (λ b. (n == c) ≡ b → cond b (Some Full) None ≡ Some w → (w ≡ Full) × (Closed n ≡ Closed c)) [
       | true ↦ λ e g. (cc, ap (λ (j : ℕ). Closed j) (eqb-true n c e))
       | false ↦ λ e g. cc
     ] in
@@ -79,7 +88,9 @@ unicast_cause a H m o looks (Some x) c w h =
     by (is_too_long o x) (is_found_full a (sent a H n) looks n) h
 
 -- a Forward ends none but by a unicast
-forward_cause : (s : Bool) (v : Option End) (b : Bool) (every single : Reply) (c : ℕ) (w : End) → end_by_reply c every ≡ None → (end_by_reply c single ≡ Some w → (w ≡ Full) × (single ≡ Closed c)) → end_by_reply c (cond s Stopped (unless_ended v (cond b every single))) ≡ Some w → (w ≡ Full) × (b ≡ false) × (cond s Stopped (unless_ended v (cond b every single)) ≡ Closed c)
+forward_cause : (s : Bool) (v : Option End) (b : Bool) (every single : Reply) (c : ℕ) (w : End) → end_by_reply c every ≡ None
+    → (end_by_reply c single ≡ Some w → (w ≡ Full) × (single ≡ Closed c)) → end_by_reply c (cond s Stopped (unless_ended v (cond b every single))) ≡ Some w → (w ≡ Full) × (b ≡ false)
+    × (cond s Stopped (unless_ended v (cond b every single)) ≡ Closed c)
 forward_cause true v b every single c w none one h = cc
 forward_cause false (Some k) b every single c w none one h = cc
 forward_cause false None true every single c w none one h = cc
@@ -88,7 +99,8 @@ forward_cause false None false every single c w none one h = let r = one h in (r
 -- a Leave ends its own connection
 leave_cause : (k c : ℕ) (w : End) → option_or (cond (k == c) (Some Left) None) None ≡ Some w → (w ≡ Left) × (k ≡ c)
 leave_cause k c w h =
-    let by : (b : Bool) → (k == c) ≡ b → option_or (cond b (Some Left) None) None ≡ Some w → (w ≡ Left) × (k ≡ c) = λ b. elim b as (λ b. (k == c) ≡ b → option_or (cond b (Some Left) None) None ≡ Some w → (w ≡ Left) × (k ≡ c)) [
+    let by : (b : Bool) → (k == c) ≡ b → option_or (cond b (Some Left) None) None ≡ Some w → (w ≡ Left)
+    × (k ≡ c) = λ b. elim b as (λ b. (k == c) ≡ b → option_or (cond b (Some Left) None) None ≡ Some w → (w ≡ Left) × (k ≡ c)) [
       | true ↦ λ e g. (cc, eqb-true k c e)
       | false ↦ λ e g. cc
     ] in
@@ -99,14 +111,16 @@ pub cause_by : (a : About) (H : List Entry) (e : Entry) (c : ℕ) (w : End) → 
 unfolding connect_reply forward_reply
 cause_by a H e c w lawful h =
     let Ends = λ (call : Call) (r : Reply). option_or (end_by_call c call) (end_by_reply c r) ≡ Some w in
-    let by : (call : Call) → e.call ≡ call → Ends call (reply a H call e.looks) → e.reply ≡ reply a H call e.looks → IsCause c w e = λ call. elim call as (λ call. e.call ≡ call → Ends call (reply a H call e.looks) → e.reply ≡ reply a H call e.looks → IsCause c w e) [
+    let by : (call : Call) → e.call ≡ call → Ends call (reply a H call e.looks) → e.reply ≡ reply a H call e.looks
+    → IsCause c w e = λ call. elim call as (λ call. e.call ≡ call → Ends call (reply a H call e.looks) → e.reply ≡ reply a H call e.looks → IsCause c w e) [
       | Connect who ↦ λ is g said. (
           let r = connect_cause _ _ _ _ _ _ _ c w g in
           subst (λ v. IsCause c v e) (sym r.0) (who, _, is, said ∙ r.1))
       | Forward sender m ↦ λ is g said. (
           let o = out_of H sender m in
           let held = holder H (destination m) in
-          let r = forward_cause _ (ended H sender) (is_broadcast m) (broadcast_reply a H o e.looks (meant H sender m)) (unicast_reply a H m o e.looks held) c w refl (unicast_cause a H m o e.looks held c w) g in
+          let r = forward_cause _ (ended H sender) (is_broadcast m) (broadcast_reply a H o e.looks (meant H sender m)) (unicast_reply a H m o e.looks held) c w refl
+          (unicast_cause a H m o e.looks held c w) g in
           subst (λ v. IsCause c v e) (sym r.0) (sender, m, is, r.1, said ∙ r.2))
       | Leave k taken empties ↦ λ is g said. (
           let r = leave_cause k c w g in
@@ -126,7 +140,8 @@ ends_by_cause a H legal = along a EndsByCause (λ c w h. cc) (λ G e legalG p la
       | true ↦ λ was none k. (G, e, [], refl, live_until_ended a G legalG c ∙ ap (λ (b : Bool). b && is_none (ended G c)) was ∙ ap (λ (o : Option End). is_none o) none, cause_by a G e c w lawful k)
       | false ↦ λ was none k. cc
     ] in
-    let on : (o : Option End) → ended G c ≡ o → option_or o (cond came (end_by c e) None) ≡ Some w → Goal = λ o. elim o as (λ o. ended G c ≡ o → option_or o (cond came (end_by c e) None) ≡ Some w → Goal) [
+    let on : (o : Option End) → ended G c ≡ o → option_or o (cond came (end_by c e) None) ≡ Some w
+    → Goal = λ o. elim o as (λ o. ended G c ≡ o → option_or o (cond came (end_by c e) None) ≡ Some w → Goal) [
       | None ↦ λ is k. here came refl is k
       | Some v ↦ λ is k. (
           let r = p c w (is ∙ k) in

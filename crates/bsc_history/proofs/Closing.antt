@@ -1,4 +1,5 @@
 -- A unicast that finds its holder's outbox full ends that connection as Full, and nothing is added.
+-- It serves the clauses of `full_closes`.
 use Rattle.std.proofs.Common.{◌≡◌, inl, inr, ℕ, ◌==◌, Bool, true, false, not, cond, List, [], ◌∷◌, Option, Some, None, is_none, option_to_list, refl, ap, sym, ◌∙◌}
 use Rattle.std.specs.List.{list_any}
 use Rattle.std.specs.Option.{option_or}
@@ -49,7 +50,8 @@ module _ (a : About) (H : List Entry) (o : List ℕ) (looks : List Look) (c : �
   none_gets None h k = refl
   none_gets (Some x) h k =
       let same : x.number ≡ c = cc in
-      let by : (b : Bool) → (x.number == k) ≡ b → list_any (takes a o (sent a H k) looks k) (x ∷ []) ≡ false = λ b. elim b as (λ b. (x.number == k) ≡ b → list_any (takes a o (sent a H k) looks k) (x ∷ []) ≡ false) [
+      let by : (b : Bool) → (x.number == k) ≡ b → list_any (takes a o (sent a H k) looks k) (x ∷ []) ≡ false =
+      λ b. elim b as (λ b. (x.number == k) ≡ b → list_any (takes a o (sent a H k) looks k) (x ∷ []) ≡ false) [
         | true ↦ λ e. none_takes a o (sent a H k) looks k (ap (λ (n : ℕ). is_found_full a (sent a H n) looks n) (sym (eqb-true x.number k e) ∙ same) ∙ full) (x ∷ [])
         | false ↦ λ e. rw e refl
       ] in
@@ -63,10 +65,12 @@ full_closes a H legal e sender m c lawful is one full =
     let just : meant H sender m ≡ option_to_list r = meant-unicast a H sender m legal one in
     let fit : list_any (fits o c) (option_to_list r) ≡ true = ap (list_any (fits o c)) (sym just) ∙ found.2 in
     let held = holder_is o c r fit in
-    let replied : e.reply ≡ unicast_reply a H m o e.looks r = replied_by a H e sender m lawful is found.0 found.1 ∙ ap (λ (b : Bool). cond b (broadcast_reply a H o e.looks (meant H sender m)) (unicast_reply a H m o e.looks r)) one in
+    let replied : e.reply ≡ unicast_reply a H m o e.looks r = replied_by a H e sender m lawful is found.0 found.1
+    ∙ ap (λ (b : Bool). cond b (broadcast_reply a H o e.looks (meant H sender m)) (unicast_reply a H m o e.looks r)) one in
     let now : is_live H c ≡ true = fits_live o c (means m sender) (live H) found.2 in
     let came = and_parts (list_any (joins c) H) (is_none (ended H c)) (sym (live_until_ended a H legal c) ∙ now) in
-    let ends : end_by c e ≡ Some Full = ap (λ (call : Call). option_or (end_by_call c call) (end_by_reply c e.reply)) is ∙ ap (end_by_reply c) replied ∙ unicast_closes a H o e.looks c full m r fit in (
+    let ends : end_by c e ≡ Some Full = ap (λ (call : Call). option_or (end_by_call c call) (end_by_reply c e.reply)) is ∙ ap (end_by_reply c) replied
+    ∙ unicast_closes a H o e.looks c full m r fit in (
       held,
       ended-more H e c ∙ ap (λ (w : Option End). option_or w (cond (list_any (joins c) H) (end_by c e) None)) (is_None (ended H c) came.1) ∙ ap (λ (b : Bool). cond b (end_by c e) None) came.0 ∙ ends,
       λ k. nothing_added a H e sender m k is (ap (list_any (takes a o (sent a H k) e.looks k)) just ∙ none_gets a H o e.looks c full r held k),

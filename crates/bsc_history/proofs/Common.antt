@@ -1,4 +1,5 @@
 -- Lemmas that crates above cite too.
+-- It serves clauses of functions of `laws`.
 use Rattle.bsc_history.specs.Counting.{one_if, is_joined}
 use Rattle.bsc_history.specs.Ends.{leaves, ended, end_by_call, is_leave, joined, joined_where, live}
 use Rattle.bsc_history.specs.Entries.{is_number, made_by, connection_of}
@@ -21,7 +22,8 @@ use Rattle.bsc_history.specs.declared.reply.Reply.TheVariants.{Appended, Closed,
 use Rattle.bsc_octets.specs.Addresses.{same_device}
 use Rattle.bsc_octets.specs.Forwarding.{is_broadcast, destination}
 use Rattle.bsc_octets.specs.declared.identity.Identity.{Identity}
-use Rattle.std.proofs.Common.{◌∷◌, ◌≡◌, not, refl, false, filter, List, [], ap, ℕ, true, arith, Bool, ◌≤◌, Option, Some, ◌∙◌, cond, None, option_to_list, length, sym, ◌&&◌, is_none, suc, ◌||◌, append_assoc, ◌++◌, take, subst, ◌==◌, inr, inl, map}
+use Rattle.std.proofs.Common.{◌∷◌, ◌≡◌, not, refl, false, filter, List, [], ap, ℕ, true, arith, Bool, ◌≤◌, Option, Some, ◌∙◌, cond, None, option_to_list, length, sym, ◌&&◌}
+use Rattle.std.proofs.Common.{is_none, suc, ◌||◌, append_assoc, ◌++◌, take, subst, ◌==◌, inr, inl, map}
 use Rattle.std.proofs.lemmas.Bool.{eq-eqb, or_right, or_left, or_cases}
 use Rattle.std.specs.List.{filter as filter′, AllByRecursion, list_any}
 use Rattle.std.specs.Option.{option_or, option_to_list as option_to_list′}
@@ -50,11 +52,14 @@ unfolding forward_reply
 is_joined-forward a H sender m looks =
     let o = out_of H sender m in
     let body = cond (is_broadcast m) (broadcast_reply a H o looks (meant H sender m)) (unicast_reply a H m o looks (holder H (destination m))) in
-    let sends : is_joined body ≡ false = elim (is_broadcast m) as (λ b. is_joined (cond b (broadcast_reply a H o looks (meant H sender m)) (unicast_reply a H m o looks (holder H (destination m)))) ≡ false) [ true ↦ refl | false ↦ is_joined-unicast a H m o looks (holder H (destination m)) ] in
+    let sends : is_joined body ≡ false = elim (is_broadcast m) as (λ b. is_joined
+    (cond b (broadcast_reply a H o looks (meant H sender m)) (unicast_reply a H m o looks (holder H (destination m))))
+    ≡ false) [ true ↦ refl | false ↦ is_joined-unicast a H m o looks (holder H (destination m)) ] in
     let unended : is_joined (unless_ended (ended H sender) body) ≡ false = elim (ended H sender) as (λ w. is_joined (unless_ended w body) ≡ false) [ None ↦ sends | Some k ↦ refl ] in
     elim (is_stopped H) as (λ b. is_joined (cond b Stopped (unless_ended (ended H sender) body)) ≡ false) [ true ↦ refl | false ↦ unended ]
 
-pub counts_one : (a : About) (H : List Entry) (caller : ℕ) (call : Call) (looks : List Look) (r : Reply) → r ≡ reply a H call looks → length (option_to_list (made_by caller call r)) ≡ one_if (is_joined r)
+pub counts_one : (a : About) (H : List Entry) (caller : ℕ) (call : Call) (looks : List Look) (r : Reply) → r ≡ reply a H call looks
+    → length (option_to_list (made_by caller call r)) ≡ one_if (is_joined r)
 counts_one a H caller (Connect who) looks (Joined c p) h = refl
 counts_one a H caller (Connect who) looks r h = refl
 counts_one a H caller (Forward c m) looks r h = ap one_if (sym (ap is_joined h ∙ is_joined-forward a H c m looks))
@@ -104,7 +109,8 @@ pub due_none : (b : Bool) (x : Reply) → None ≡ cond b None (Some x) → b �
 due_none true x e = refl
 due_none false x e = cc
 
-pub one_made : (P : Connection → Type 0) (caller : ℕ) (who : Identity) (r : Reply) (c : ℕ) (replaced : Option ℕ) → r ≡ Joined c replaced → P (record { number = c; caller = caller; who = who }) → AllByRecursion P (option_to_list (made_by caller (Connect who) r))
+pub one_made : (P : Connection → Type 0) (caller : ℕ) (who : Identity) (r : Reply) (c : ℕ) (replaced : Option ℕ) → r ≡ Joined c replaced
+    → P (record { number = c; caller = caller; who = who }) → AllByRecursion P (option_to_list (made_by caller (Connect who) r))
 one_made P caller who r c replaced is p = subst (λ (x : Reply). AllByRecursion P (option_to_list (made_by caller (Connect who) x))) (sym is) (p, tt)
 
 pub end_is : (d e : End) → Some d ≡ Some e → d ≡ e
@@ -114,8 +120,13 @@ pub among_any : (c : ℕ) (q : Connection → Bool) (xs : List Connection) → i
 among_any c q [] h = h
 among_any c q (x ∷ xs) h = by (q x) h (among_any c q xs)
   where
-    by : (b : Bool) → is_among c (numbers (cond b (x ∷ filter q xs) (filter q xs))) ≡ true → (is_among c (numbers (filter q xs)) ≡ true → list_any (λ y. y.number == c) xs ≡ true) → list_any (λ y. y.number == c) (x ∷ xs) ≡ true
-    by true g rec = elim (or_cases (x.number == c) (is_among c (numbers (filter q xs))) g) [ inl here ↦ or_left (x.number == c) (list_any (λ y. y.number == c) xs) here | inr later ↦ or_right (x.number == c) (list_any (λ y. y.number == c) xs) (rec later) ]
+    by : (b : Bool) → is_among c (numbers (cond b (x ∷ filter q xs) (filter q xs))) ≡ true → (is_among c (numbers (filter q xs)) ≡ true → list_any (λ y. y.number == c) xs ≡ true)
+        → list_any (λ y. y.number == c) (x ∷ xs) ≡ true
+    by true g rec = elim (or_cases (x.number == c) (is_among c (numbers (filter q xs))) g) [
+      | inl here ↦ or_left (x.number == c) (list_any (λ y. y.number == c) xs) here
+      | inr later ↦ or_right
+          (x.number == c) (list_any (λ y. y.number == c) xs) (rec later)
+    ]
     by false g rec = or_right (x.number == c) (list_any (λ y. y.number == c) xs) (rec g)
 
 pub any_filtered : (p q : Connection → Bool) (xs : List Connection) → list_any p (filter q xs) ≡ true → list_any p xs ≡ true
@@ -130,14 +141,17 @@ pub looks_live : (H : List Entry) (call : Call) (c : ℕ) → is_among c (looks_
 looks_live H (Forward sender m) c h =
     let xs = meant H sender m in
     let q = λ (x : Connection). not (is_too_long (out_of H sender m) x) in
-    let by : (b : Bool) → is_among c (cond b [] (numbers (filter q xs))) ≡ true → is_among c (numbers (filter q xs)) ≡ true = λ b. elim b as (λ b. is_among c (cond b [] (numbers (filter q xs))) ≡ true → is_among c (numbers (filter q xs)) ≡ true) [ true ↦ λ g. cc | false ↦ λ g. g ] in
+    let by : (b : Bool) → is_among c (cond b [] (numbers (filter q xs))) ≡ true
+    → is_among c (numbers (filter q xs)) ≡ true = λ b. elim b as (λ b. is_among c (cond b [] (numbers (filter q xs))) ≡ true
+    → is_among c (numbers (filter q xs)) ≡ true) [ true ↦ λ g. cc | false ↦ λ g. g ] in
     any_filtered (λ x. x.number == c) (means m sender) (live H) (among_any c q xs (by _ h))
 looks_live H (Connect who) c h = cc
 looks_live H (Leave conn taken empties) c h = cc
 looks_live H Stop c h = cc
 looks_live H Count c h = cc
 
-pub looks_told : (f : ℕ → ℕ) (looks : List Look) → AllByRecursion (λ (l : Look). l.taken ≡ f l.conn) looks → looks ≡ map (λ c. let k : Look = record { conn = c; taken = f c } in k) (map (λ (l : Look). l.conn) looks)
+pub looks_told : (f : ℕ → ℕ) (looks : List Look) → AllByRecursion (λ (l : Look). l.taken ≡ f l.conn) looks
+    → looks ≡ map (λ c. let k : Look = record { conn = c; taken = f c } in k) (map (λ (l : Look). l.conn) looks)
 looks_told f [] h = refl
 looks_told f (l ∷ ls) h =
     ap (λ (n : ℕ). (let k : Look = record { conn = l.conn; taken = n } in k) ∷ ls) h.0

@@ -1,5 +1,7 @@
 -- What holds of the joined, of the unleft and of the live connections of every legal history.
-use Rattle.std.proofs.Common.{◌≡◌, ◌≢◌, inl, inr, ℕ, ◌+◌, ◌≤◌, ◌==◌, Bool, true, false, not, ◌&&◌, cond, List, [], ◌∷◌, ◌++◌, length, filter, Option, Some, None, is_none, MatchOption, option_to_list, refl, ap, sym, ◌∙◌, subst, arith, length-append, is_some}
+-- It serves the clauses of `frames_enter_by_forwards`.
+use Rattle.std.proofs.Common.{◌≡◌, ◌≢◌, inl, inr, ℕ, ◌+◌, ◌≤◌, ◌==◌, Bool, true, false, not, ◌&&◌, cond, List, [], ◌∷◌, ◌++◌, length, filter, Option, Some, None, is_none}
+use Rattle.std.proofs.Common.{MatchOption, option_to_list, refl, ap, sym, ◌∙◌, subst, arith, length-append, is_some}
 use Rattle.std.specs.List.{list_any}
 use Rattle.std.specs.Option.{option_or}
 use Rattle.std.proofs.lemmas.Bool.{eq-eqb, eqb-true, both_ways, cases_lt, or_left, or_right, not-false}
@@ -103,7 +105,8 @@ joined_counted a H legal = along a (λ G. length (joined G) ≡ (counts G).joine
 
 -- the live connections are the unleft ones that have no end
 
-filters : (E K L E' : Connection → Bool) (xs : List Connection) → ((x : Connection) → In x xs → E' x ≡ (E x && K x)) → ((x : Connection) → L x ≡ false → K x ≡ false) → filter K (filter E xs) ≡ filter E' (filter L xs)
+filters : (E K L E' : Connection → Bool) (xs : List Connection) → ((x : Connection) → In x xs → E' x ≡ (E x && K x)) → ((x : Connection) → L x ≡ false → K x ≡ false)
+    → filter K (filter E xs) ≡ filter E' (filter L xs)
 filters E K L E' [] each leaving = refl
 filters E K L E' (x ∷ xs) each leaving =
     let rest = filters E K L E' xs (λ y m. each y (inr m)) leaving in
@@ -130,12 +133,14 @@ live_unended a H legal = along a (λ G. live G ≡ filter (λ x. is_none (ended 
     let L = λ (x : Connection). not (leaves x.number e) in
     let E' = λ (x : Connection). is_none (ended (G ++ e ∷ []) x.number) in
     let o = option_to_list (connection_of e) in
-    let each : (x : Connection) → In x (unleft G) → E' x ≡ (E x && K x) = λ x m. ap is_none (ended-more G e x.number ∙ ap (λ (b : Bool). option_or (ended G x.number) (cond b (end_by x.number e) None)) (unleft_joined G x m).1) ∙ none_both (ended G x.number) (end_by x.number e) in
+    let each : (x : Connection) → In x (unleft G) → E' x ≡ (E x && K x) = λ x m. ap is_none
+    (ended-more G e x.number ∙ ap (λ (b : Bool). option_or (ended G x.number) (cond b (end_by x.number e) None)) (unleft_joined G x m).1) ∙ none_both (ended G x.number) (end_by x.number e) in
     let leaving : (x : Connection) → L x ≡ false → K x ≡ false = λ x f. leave_ends x.number e.call (end_by_reply x.number e.reply) (not-false (leaves x.number e) f) in
     let new : (x : Connection) → connection_of e ≡ Some x → E' x ≡ true = λ x same. (
     let next = (comes a G e x lawful same).0 in
     let fresh = (settled a G legalG).fresh x.number (omega arith) in
-    ap is_none (ended-more G e x.number ∙ ap (λ (b : Bool). option_or (ended G x.number) (cond b (end_by x.number e) None)) fresh ∙ ap (λ (w : Option End). option_or w None) (not_joined G x.number fresh))) in
+    ap is_none (ended-more G e x.number ∙ ap (λ (b : Bool). option_or (ended G x.number) (cond b (end_by x.number e) None)) fresh
+    ∙ ap (λ (w : Option End). option_or w None) (not_joined G x.number fresh))) in
     live-more G e ∙ ap (λ (l : List Connection). filter K l ++ o) p
     ∙ ap (λ (l : List Connection). l ++ o) (filters E K L E' (unleft G) each leaving)
     ∙ ap (λ (l : List Connection). filter E' (filter L (unleft G)) ++ l) (sym (filter_only E' (connection_of e) new))

@@ -1,4 +1,5 @@
 -- Each frame of an outbox entered it by one Forward.
+-- It serves the clauses of `frames_enter_by_forwards`.
 use Rattle.std.proofs.Common.{◌≡◌, ◌⊎◌, inl, inr, ℕ, ◌==◌, Bool, true, false, not, cond, ◌&&◌, ◌||◌, List, [], ◌∷◌, ◌++◌, length, Option, Some, refl, ap, sym, subst, ◌∙◌, append_assoc, append-nil}
 use Rattle.std.specs.Prelude.{slice_get}
 use Rattle.std.specs.List.{list_any}
@@ -86,7 +87,8 @@ enters_now a G e c place frame legal d behind =
       sender_live = numbered_so sender.0 (live G) (live_numbers a G legal) from.0;
       receiver_live = ap (λ (n : ℕ). numbered n (live G)) (sym d.number) ∙ numbered_so d.taker (live G) (live_numbers a G legal) d.among;
       meant = ap (λ (n : ℕ). means d.message n d.taker) from.1 ∙ d.meant_so;
-      octets = d.octets ∙ ap (λ (o : Option Connection). out d.message (vmac_in o)) (ap (λ (n : ℕ). numbered n (joined G)) (sym from.1) ∙ numbered_so sender.0 (joined G) (joined_apart a G legal) from_joined);
+      octets = d.octets ∙ ap (λ (o : Option Connection). out d.message (vmac_in o))
+          (ap (λ (n : ℕ). numbered n (joined G)) (sym from.1) ∙ numbered_so sender.0 (joined G) (joined_apart a G legal) from_joined);
       behind = behind;
     }
 

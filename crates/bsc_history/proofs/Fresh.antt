@@ -1,5 +1,7 @@
 -- A number above those of all that joined has no joining, no End, no look, and nothing entered its outbox.
-use Rattle.std.proofs.Common.{◌≡◌, ℕ, ◌+◌, ◌<◌, ◌≤◌, ◌==◌, inl, inr, Bool, true, false, not, ◌||◌, cond, List, [], ◌∷◌, ◌++◌, length, Some, None, is_some, is_none, option_to_list, refl, ap, sym, ◌∙◌, arith, append-nil, length-append}
+-- It serves many crates above.
+use Rattle.std.proofs.Common.{◌≡◌, ℕ, ◌+◌, ◌<◌, ◌≤◌, ◌==◌, inl, inr, Bool, true, false, not, ◌||◌, cond, List, [], ◌∷◌, ◌++◌, length, Some, None, is_some, is_none, option_to_list}
+use Rattle.std.proofs.Common.{refl, ap, sym, ◌∙◌, arith, append-nil, length-append}
 use Rattle.std.specs.List.{list_any}
 use Rattle.std.proofs.lemmas.Bool.{and_left, and_right}
 use Rattle.bsc_history.specs.declared.limits.About.{About}
@@ -21,7 +23,8 @@ use Rattle.bsc_history.proofs.Uniqueness.{not_joined, settled}
 not_numbered : (c : ℕ) (x : Connection) (xs : List Connection) → is_some (numbered c xs) ≡ false → In x xs → (x.number == c) ≡ false
 not_numbered c x [] h m = absurd m
 not_numbered c x (y ∷ ys) h m =
-    let by : (b : Bool) → (y.number == c) ≡ b → is_some (cond b (Some y) (numbered c ys)) ≡ false → (x.number == c) ≡ false = λ b. elim b as (λ b. (y.number == c) ≡ b → is_some (cond b (Some y) (numbered c ys)) ≡ false → (x.number == c) ≡ false) [
+    let by : (b : Bool) → (y.number == c) ≡ b → is_some (cond b (Some y) (numbered c ys)) ≡ false
+    → (x.number == c) ≡ false = λ b. elim b as (λ b. (y.number == c) ≡ b → is_some (cond b (Some y) (numbered c ys)) ≡ false → (x.number == c) ≡ false) [
       | true ↦ λ e g. cc
       | false ↦ λ e g. elim m [ inl same ↦ ap (λ (z : Connection). z.number == c) (sym same) ∙ e | inr later ↦ not_numbered c x ys g later ]
     ] in
@@ -32,7 +35,9 @@ pub none_added : (a : About) (H : List Entry) (entered : List (List ℕ)) (c : �
 unfolding added_by
 none_added a H entered c (Forward sender m) looks out =
     let o = out_of H sender m in
-    let none : list_any (takes a o entered looks c) (meant H sender m) ≡ false = none_passes (takes a o entered looks c) (meant H sender m) (λ x mem. and_left (x.number == c) (not (is_too_long o x || is_found_full a entered looks c)) (not_numbered c x (live H) out (In-filter (means m sender) x (live H) mem).0)) in
+    let none : list_any (takes a o entered looks c) (meant H sender m) ≡ false =
+    none_passes (takes a o entered looks c) (meant H sender m) (λ x mem. and_left (x.number == c) (not (is_too_long o x || is_found_full a entered looks c))
+    (not_numbered c x (live H) out (In-filter (means m sender) x (live H) mem).0)) in
     ap (λ (b : Bool). cond b (o ∷ []) []) (and_right (is_live H sender) (list_any (takes a o entered looks c) (meant H sender m)) none)
 none_added a H entered c call looks out = refl
 
@@ -45,7 +50,8 @@ fresh_ended a H c legal above = not_joined H c (fresh_joins a H c legal above)
 pub fresh_sent : (a : About) (H : List Entry) (c : ℕ) → Legal a H → length (joined H) < c → sent a H c ≡ []
 unfolding sent
 fresh_sent a H c legal = along a (λ G. length (joined G) < c → sent a G c ≡ []) (λ above. refl) (λ G e legalG p lawful above.
-    let grown : length (joined (G ++ e ∷ [])) ≡ length (joined G) + length (option_to_list (connection_of e)) = ap length (joined-more G e) ∙ length-append (joined G) (option_to_list (connection_of e)) in
+    let grown : length (joined (G ++ e ∷ [])) ≡ length (joined G) + length (option_to_list (connection_of e)) = ap length (joined-more G e)
+    ∙ length-append (joined G) (option_to_list (connection_of e)) in
     let before : length (joined G) < c = omega arith in
     let out : is_live G c ≡ false = live_until_ended a G legalG c ∙ and_left (list_any (joins c) G) (is_none (ended G c)) (fresh_joins a G c legalG before) in
     sent-more a G e c ∙ ap (λ (l : List (List ℕ)). sent a G c ++ l) (none_added a G (sent a G c) c e.call e.looks out) ∙ append-nil (sent a G c) ∙ p before) H legal

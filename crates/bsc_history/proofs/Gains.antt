@@ -1,5 +1,7 @@
 -- Which outboxes gain a frame by an entry, and which frame.
-use Rattle.std.proofs.Common.{◌≡◌, ◌≢◌, ◌⊎◌, ◌≤◌, ◌+◌, inl, inr, ℕ, ◌==◌, Bool, true, false, not, ◌&&◌, ◌||◌, cond, List, [], ◌∷◌, ◌++◌, length, filter, Option, Some, None, is_some, option_to_list, refl, ap, sym, ◌∙◌, append-nil, length-append, arith}
+-- It serves clauses of functions of `laws`.
+use Rattle.std.proofs.Common.{◌≡◌, ◌≢◌, ◌⊎◌, ◌≤◌, ◌+◌, inl, inr, ℕ, ◌==◌, Bool, true, false, not, ◌&&◌, ◌||◌, cond, List, [], ◌∷◌, ◌++◌, length, filter, Option, Some, None}
+use Rattle.std.proofs.Common.{is_some, option_to_list, refl, ap, sym, ◌∙◌, append-nil, length-append, arith}
 use Rattle.std.specs.Prelude.{if◌then◌else◌}
 use Rattle.std.specs.List.{list_any}
 use Rattle.std.proofs.lemmas.Bool.{eqb-true, eq-eqb, ne_eqb, and_parts, or_cases, or_left, or_right, both_ways}
@@ -21,11 +23,13 @@ use Rattle.bsc_history.proofs.More.{each_entry, sent-more}
 use Rattle.bsc_history.proofs.Named.{meant-unicast}
 
 -- a call adds nothing, or one frame
-pub one_or_none : (a : About) (H : List Entry) (entered : List (List ℕ)) (c : ℕ) (call : Call) (looks : List Look) → (added_by a H entered c call looks ≡ []) ⊎ ((frame : List ℕ) × (added_by a H entered c call looks ≡ frame ∷ []))
+pub one_or_none : (a : About) (H : List Entry) (entered : List (List ℕ)) (c : ℕ) (call : Call) (looks : List Look) → (added_by a H entered c call looks ≡ [])
+    ⊎ ((frame : List ℕ) × (added_by a H entered c call looks ≡ frame ∷ []))
 unfolding added_by
 one_or_none a H entered c (Forward sender m) looks =
     let o = out_of H sender m in
-    elim (is_live H sender && list_any (takes a o entered looks c) (meant H sender m)) as (λ b. (cond b (o ∷ []) [] ≡ []) ⊎ ((frame : List ℕ) × (cond b (o ∷ []) [] ≡ frame ∷ []))) [ true ↦ inr (o, refl) | false ↦ inl refl ]
+    elim (is_live H sender && list_any (takes a o entered looks c) (meant H sender m)) as (λ b. (cond b (o ∷ []) [] ≡ [])
+    ⊎ ((frame : List ℕ) × (cond b (o ∷ []) [] ≡ frame ∷ []))) [ true ↦ inr (o, refl) | false ↦ inl refl ]
 one_or_none a H entered c call looks = inl refl
 
 pub adds_once : (a : About) (H : List Entry) → AddsOnce a H
@@ -47,7 +51,8 @@ sent_short a H c = each_entry (λ G. length (sent a G c) ≤ length G) (omega ar
     ]) H
 
 -- where a Forward makes the outbox of c grow, a connection that it means takes it, and the outbox gains the frame as it is passed on
-gains : (a : About) (H : List Entry) (e : Entry) (sender : ℕ) (m : List ℕ) (c : ℕ) → e.call ≡ Forward sender m → sent a (H ++ e ∷ []) c ≢ sent a H c → (list_any (takes a (out_of H sender m) (sent a H c) e.looks c) (meant H sender m) ≡ true) × (sent a (H ++ e ∷ []) c ≡ sent a H c ++ out_of H sender m ∷ [])
+gains : (a : About) (H : List Entry) (e : Entry) (sender : ℕ) (m : List ℕ) (c : ℕ) → e.call ≡ Forward sender m → sent a (H ++ e ∷ []) c ≢ sent a H c
+    → (list_any (takes a (out_of H sender m) (sent a H c) e.looks c) (meant H sender m) ≡ true) × (sent a (H ++ e ∷ []) c ≡ sent a H c ++ out_of H sender m ∷ [])
 unfolding added_by
 gains a H e sender m c is grows =
     let s = sent a H c in
@@ -62,7 +67,8 @@ gains a H e sender m c is grows =
     by (is_live H sender && any) refl
 
 -- the one that takes it is the one found
-taker_is : (a : About) (o : List ℕ) (entered : List (List ℕ)) (looks : List Look) (c : ℕ) (r : Option Connection) → list_any (takes a o entered looks c) (option_to_list r) ≡ true → number_of r ≡ Some c
+taker_is : (a : About) (o : List ℕ) (entered : List (List ℕ)) (looks : List Look) (c : ℕ) (r : Option Connection) → list_any (takes a o entered looks c) (option_to_list r) ≡ true
+    → number_of r ≡ Some c
 taker_is a o entered looks c None h = cc
 taker_is a o entered looks c (Some x) h =
     elim (or_cases (takes a o entered looks c x) false h) [
@@ -77,7 +83,8 @@ unicast_to_holder_alone a H legal e sender m c is one grows =
     (taker_is a o (sent a H c) e.looks c (holder H (destination m)) (ap (list_any (takes a o (sent a H c) e.looks c)) (sym (meant-unicast a H sender m legal one)) ∙ r.0), r.1)
 
 -- one that takes a broadcast is among those who may, and isn't the sender
-taker_among : (a : About) (o : List ℕ) (entered : List (List ℕ)) (looks : List Look) (c sender : ℕ) (xs : List Connection) → list_any (takes a o entered looks c) (filter (λ x. not (x.number == sender)) xs) ≡ true → (is_some (numbered c xs) ≡ true) × (c ≢ sender)
+taker_among : (a : About) (o : List ℕ) (entered : List (List ℕ)) (looks : List Look) (c sender : ℕ) (xs : List Connection)
+    → list_any (takes a o entered looks c) (filter (λ x. not (x.number == sender)) xs) ≡ true → (is_some (numbered c xs) ≡ true) × (c ≢ sender)
 taker_among a o entered looks c sender [] h = cc
 taker_among a o entered looks c sender (x ∷ xs) h =
     let ys = filter (λ (y : Connection). not (y.number == sender)) xs in
@@ -85,7 +92,8 @@ taker_among a o entered looks c sender (x ∷ xs) h =
     let later : list_any (takes a o entered looks c) ys ≡ true → Goal (x.number == c) = λ g. (
     let r = taker_among a o entered looks c sender xs g in
     elim (x.number == c) as Goal [ true ↦ (refl, r.1) | false ↦ r ]) in
-    let by : (k : Bool) → (x.number == sender) ≡ k → list_any (takes a o entered looks c) (cond (not k) (x ∷ ys) ys) ≡ true → Goal (x.number == c) = λ k. elim k as (λ k. (x.number == sender) ≡ k → list_any (takes a o entered looks c) (cond (not k) (x ∷ ys) ys) ≡ true → Goal (x.number == c)) [
+    let by : (k : Bool) → (x.number == sender) ≡ k → list_any (takes a o entered looks c) (cond (not k) (x ∷ ys) ys) ≡ true
+    → Goal (x.number == c) = λ k. elim k as (λ k. (x.number == sender) ≡ k → list_any (takes a o entered looks c) (cond (not k) (x ∷ ys) ys) ≡ true → Goal (x.number == c)) [
       | true ↦ λ e g. later g
       | false ↦ λ e g. elim (or_cases (takes a o entered looks c x) (list_any (takes a o entered looks c) ys) g) [
         | inl here ↦ (
@@ -100,12 +108,14 @@ pub broadcast_to_others_alone : (a : About) (H : List Entry) → BroadcastToOthe
 broadcast_to_others_alone a H e sender m c is all grows =
     let o = out_of H sender m in
     let r = gains a H e sender m c is grows in
-    let others : list_any (takes a o (sent a H c) e.looks c) (filter (λ x. not (x.number == sender)) (live H)) ≡ true = ap (λ (b : Bool). list_any (takes a o (sent a H c) e.looks c) (filter (λ x. if b then not (x.number == sender) else same_vmac x.who.vmac (destination m)) (live H))) (sym all) ∙ r.0 in
+    let others : list_any (takes a o (sent a H c) e.looks c) (filter (λ x. not (x.number == sender)) (live H)) ≡ true =
+    ap (λ (b : Bool). list_any (takes a o (sent a H c) e.looks c) (filter (λ x. if b then not (x.number == sender) else same_vmac x.who.vmac (destination m)) (live H))) (sym all) ∙ r.0 in
     let t = taker_among a o (sent a H c) e.looks c sender (live H) others in
     (t.0, t.1, r.1)
 
 -- where a live sender forwards and a connection that it means takes the frame, its outbox gains it
-joins_by : (a : About) (H : List Entry) (e : Entry) (sender : ℕ) (m : List ℕ) (c : ℕ) → e.call ≡ Forward sender m → is_live H sender ≡ true → list_any (takes a (out_of H sender m) (sent a H c) e.looks c) (meant H sender m) ≡ true → sent a (H ++ e ∷ []) c ≡ sent a H c ++ out_of H sender m ∷ []
+joins_by : (a : About) (H : List Entry) (e : Entry) (sender : ℕ) (m : List ℕ) (c : ℕ) → e.call ≡ Forward sender m → is_live H sender ≡ true
+    → list_any (takes a (out_of H sender m) (sent a H c) e.looks c) (meant H sender m) ≡ true → sent a (H ++ e ∷ []) c ≡ sent a H c ++ out_of H sender m ∷ []
 unfolding added_by
 joins_by a H e sender m c is now any =
     let s = sent a H c in
@@ -114,7 +124,8 @@ joins_by a H e sender m c is now any =
     ∙ ap (λ (b : Bool). s ++ cond (b && list_any (takes a o s e.looks c) (meant H sender m)) (o ∷ []) []) now
     ∙ ap (λ (b : Bool). s ++ cond b (o ∷ []) []) any
 
-takes_it : (a : About) (o : List ℕ) (entered : List (List ℕ)) (looks : List Look) (x : Connection) → is_too_long o x ≡ false → is_found_full a entered looks x.number ≡ false → takes a o entered looks x.number x ≡ true
+takes_it : (a : About) (o : List ℕ) (entered : List (List ℕ)) (looks : List Look) (x : Connection) → is_too_long o x ≡ false → is_found_full a entered looks x.number ≡ false
+    → takes a o entered looks x.number x ≡ true
 takes_it a o entered looks x fits room = rw (eq-eqb x.number x.number refl, fits, room) refl
 
 pub unicast_joins : (a : About) (H : List Entry) → Legal a H → UnicastJoins a H
@@ -126,11 +137,14 @@ unicast_joins a H legal e sender m x is one now held fits room =
     ∙ or_left (t x) false (takes_it a o (sent a H x.number) e.looks x fits room))
 
 -- one that is found and takes the frame is among those who may, where it isn't the sender
-found_takes : (t : Connection → Bool) (c sender : ℕ) (x : Connection) (xs : List Connection) → numbered c xs ≡ Some x → (x.number == sender) ≡ false → t x ≡ true → list_any t (filter (λ y. not (y.number == sender)) xs) ≡ true
+found_takes : (t : Connection → Bool) (c sender : ℕ) (x : Connection) (xs : List Connection) → numbered c xs ≡ Some x → (x.number == sender) ≡ false → t x ≡ true
+    → list_any t (filter (λ y. not (y.number == sender)) xs) ≡ true
 found_takes t c sender x [] found other h = cc
 found_takes t c sender x (y ∷ ys) found other h =
     let zs = filter (λ (z : Connection). not (z.number == sender)) ys in
-    let by : (b : Bool) → (y.number == c) ≡ b → cond b (Some y) (numbered c ys) ≡ Some x → list_any t (cond (not (y.number == sender)) (y ∷ zs) zs) ≡ true = λ b. elim b as (λ b. (y.number == c) ≡ b → cond b (Some y) (numbered c ys) ≡ Some x → list_any t (cond (not (y.number == sender)) (y ∷ zs) zs) ≡ true) [
+    let by : (b : Bool) → (y.number == c) ≡ b → cond b (Some y) (numbered c ys) ≡ Some x
+    → list_any t (cond (not (y.number == sender)) (y ∷ zs) zs) ≡ true = λ b. elim b as (λ b. (y.number == c) ≡ b → cond b (Some y) (numbered c ys) ≡ Some x
+    → list_any t (cond (not (y.number == sender)) (y ∷ zs) zs) ≡ true) [
       | true ↦ λ e f. (
           let same : y ≡ x = cc in
           let apart : (y.number == sender) ≡ false = ap (λ (z : Connection). z.number == sender) same ∙ other in

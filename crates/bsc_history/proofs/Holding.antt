@@ -1,4 +1,5 @@
 -- The holder of an address after one entry more.
+-- It serves the clauses of `join_takes_over`.
 use Rattle.std.proofs.Common.{◌≡◌, Bool, cond, List, [], ◌∷◌, ◌++◌, filter, find, Option, Some, None, is_none, option_to_list, refl, ap, ◌∙◌}
 use Rattle.std.specs.Option.{option_or}
 use Rattle.std.proofs.lemmas.Bool.{false_from_ne_true}

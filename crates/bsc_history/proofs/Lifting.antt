@@ -1,5 +1,6 @@
 -- What a caller knows of its own connections from a first part of a history holds of the whole: no other caller can
 -- make its connections leave.
+-- It serves many crates above.
 use Rattle.std.proofs.Common.{◌≡◌, ℕ, ◌==◌, Bool, true, false, not, ◌&&◌, cond, List, [], ◌∷◌, ◌++◌, filter, Some, option_to_list, refl, ap, sym, ◌∙◌, subst, append_assoc, append-nil}
 use Rattle.std.specs.List.{list_any, AllByRecursion}
 use Rattle.std.proofs.lemmas.Bool.{and_from, and_parts, both_ways, eq-eqb, eqb-true, false_from_ne_true, or_left, or_parts, or_right}
@@ -31,7 +32,8 @@ leave_of_own a G p Count h c is = cc
 stay_parts : (e : Entry) (es : List Entry) (p c : ℕ) → list_any (leaves c) (own (e ∷ es) p) ≡ false → ((e.caller == p) ≡ true → leaves c e ≡ false) × (list_any (leaves c) (own es p) ≡ false)
 stay_parts e es p c h =
     let Goal = ((e.caller == p) ≡ true → leaves c e ≡ false) × (list_any (leaves c) (own es p) ≡ false) in
-    let by : (b : Bool) → (e.caller == p) ≡ b → list_any (leaves c) (cond b (e ∷ own es p) (own es p)) ≡ false → Goal = λ b. elim b as (λ b. (e.caller == p) ≡ b → list_any (leaves c) (cond b (e ∷ own es p) (own es p)) ≡ false → Goal) [
+    let by : (b : Bool) → (e.caller == p) ≡ b → list_any (leaves c) (cond b (e ∷ own es p) (own es p)) ≡ false
+    → Goal = λ b. elim b as (λ b. (e.caller == p) ≡ b → list_any (leaves c) (cond b (e ∷ own es p) (own es p)) ≡ false → Goal) [
       | true ↦ λ is k. (let r = or_parts (leaves c e) (list_any (leaves c) (own es p)) k in (λ mine. r.0, r.1))
       | false ↦ λ is k. (λ mine. absurd (both_ways (e.caller == p) is mine), k)
     ] in
@@ -57,7 +59,8 @@ module _ (a : About) (p c : ℕ) (t : Connection → Bool) (by_p : (x : Connecti
       ap (list_any t) (unleft-more G e) ∙ list_any-append t left (option_to_list (connection_of e))
       ∙ or_left (list_any t left) (list_any t (option_to_list (connection_of e))) (any_In t x left kept w.2)
 
-  along_rest : (G es : List Entry) → Legal a G → AllByRecursion (Lawful a) (moments_after G es) → list_any (leaves c) (own es p) ≡ false → list_any t (unleft G) ≡ true → list_any t (unleft (G ++ es)) ≡ true
+  along_rest : (G es : List Entry) → Legal a G → AllByRecursion (Lawful a) (moments_after G es) → list_any (leaves c) (own es p) ≡ false → list_any t (unleft G) ≡ true
+      → list_any t (unleft (G ++ es)) ≡ true
   along_rest G [] legal rest stay h = rw append-nil h
   along_rest G (e ∷ es) legal rest stay h =
       let two = stay_parts e es p c stay in
@@ -66,15 +69,18 @@ module _ (a : About) (p c : ℕ) (t : Connection → Bool) (by_p : (x : Connecti
 
   -- Of such a test, what holds of a first part of a legal history holds of the whole, where none of the caller's own
   -- entries since is a leave of c.
-  pub lifts : (F rest own_since : List Entry) → Legal a (F ++ rest) → own (F ++ rest) p ≡ own F p ++ own_since → list_any (leaves c) own_since ≡ false → list_any t (unleft F) ≡ true → list_any t (unleft (F ++ rest)) ≡ true
+  pub lifts : (F rest own_since : List Entry) → Legal a (F ++ rest) → own (F ++ rest) p ≡ own F p ++ own_since → list_any (leaves c) own_since ≡ false → list_any t (unleft F) ≡ true
+      → list_any t (unleft (F ++ rest)) ≡ true
   lifts F rest own_since legal same stay h =
       let since : own rest p ≡ own_since = same_rest (own F p) (own rest p) own_since (sym (own-append F rest p) ∙ same) in
       along_rest F rest (Legal-first a F rest legal) (All-parts (Lawful a) [] F rest legal.lawful).1 (ap (list_any (leaves c)) since ∙ stay) h
 
 -- What caller p has joined and hasn't left by F, it has by F and the rest, where none of its own entries since is a
 -- leave of it.
-pub own_lifts : (a : About) (p c : ℕ) (F rest own_since : List Entry) → Legal a (F ++ rest) → own (F ++ rest) p ≡ own F p ++ own_since → list_any (leaves c) own_since ≡ false → is_of F p c ≡ true → is_of (F ++ rest) p c ≡ true
-own_lifts a p c F rest own_since legal same stay h = lifts a p c (λ x. (x.number == c) && (x.caller == p)) (λ x k. (let two = and_parts (x.number == c) (x.caller == p) k in (eqb-true x.caller p two.1, eqb-true x.number c two.0))) F rest own_since legal same stay h
+pub own_lifts : (a : About) (p c : ℕ) (F rest own_since : List Entry) → Legal a (F ++ rest) → own (F ++ rest) p ≡ own F p ++ own_since → list_any (leaves c) own_since ≡ false
+    → is_of F p c ≡ true → is_of (F ++ rest) p c ≡ true
+own_lifts a p c F rest own_since legal same stay h = lifts a p c (λ x. (x.number == c) && (x.caller == p))
+    (λ x k. (let two = and_parts (x.number == c) (x.caller == p) k in (eqb-true x.caller p two.1, eqb-true x.number c two.0))) F rest own_since legal same stay h
 
 -- What a caller has joined and hasn't left has joined.
 pub own_joined : (H : List Entry) (p c : ℕ) → is_of H p c ≡ true → list_any (joins c) H ≡ true
@@ -86,4 +92,5 @@ join_owned G e x new =
     let t = λ (y : Connection). (y.number == x.number) && (y.caller == x.caller) in
     let left = filter (λ (y : Connection). not (leaves y.number e)) (unleft G) in
     ap (list_any t) (unleft-more G e) ∙ list_any-append t left (option_to_list (connection_of e))
-    ∙ or_right (list_any t left) (list_any t (option_to_list (connection_of e))) (ap (λ o. list_any t (option_to_list o)) new ∙ or_left (t x) false (and_from (x.number == x.number) (x.caller == x.caller) (eq-eqb x.number x.number refl) (eq-eqb x.caller x.caller refl)))
+    ∙ or_right (list_any t left) (list_any t (option_to_list (connection_of e)))
+    (ap (λ o. list_any t (option_to_list o)) new ∙ or_left (t x) false (and_from (x.number == x.number) (x.caller == x.caller) (eq-eqb x.number x.number refl) (eq-eqb x.caller x.caller refl)))

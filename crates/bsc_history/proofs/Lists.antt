@@ -1,4 +1,5 @@
 -- Members of lists, and elements that are apart.
+-- It serves clauses of functions of `laws`.
 use Rattle.std.proofs.Common.{◌≡◌, ◌≢◌, ◌⊎◌, inl, inr, Bool, true, false, cond, List, [], ◌∷◌, ◌++◌, filter, find, Option, Some, None, MatchOption, option_to_list, refl, ap, sym, ◌∙◌, subst}
 use Rattle.std.specs.List.{list_any, AllByRecursion}
 use Rattle.std.proofs.lemmas.Bool.{false_from_ne_true, or_cases, or_left, or_right}
@@ -31,7 +32,8 @@ In-option x (Some y) (inr h) = absurd h
 pub In-filter : {A : Type 0} (p : A → Bool) (x : A) (xs : List A) → In x (filter p xs) → In x xs × (p x ≡ true)
 In-filter {A} p x [] h = absurd h
 In-filter {A} p x (y ∷ ys) h =
-    let by : (b : Bool) → p y ≡ b → In x (cond b (y ∷ filter p ys) (filter p ys)) → In x (y ∷ ys) × (p x ≡ true) = λ b. elim b as (λ b. p y ≡ b → In x (cond b (y ∷ filter p ys) (filter p ys)) → In x (y ∷ ys) × (p x ≡ true)) [
+    let by : (b : Bool) → p y ≡ b → In x (cond b (y ∷ filter p ys) (filter p ys)) → In x (y ∷ ys)
+    × (p x ≡ true) = λ b. elim b as (λ b. p y ≡ b → In x (cond b (y ∷ filter p ys) (filter p ys)) → In x (y ∷ ys) × (p x ≡ true)) [
       | true ↦ λ e m. elim m [ inl same ↦ (inl same, subst (λ z. p z ≡ true) same e) | inr n ↦ (let r = In-filter p x ys n in (inr r.0, r.1)) ]
       | false ↦ λ e m. (let r = In-filter p x ys m in (inr r.0, r.1))
     ] in
@@ -43,7 +45,8 @@ find_says p [] = λ x h. absurd h
 find_says {A} p (y ∷ ys) =
     let none = (x : A) → In x (y ∷ ys) → p x ≡ false in
     let some = λ (x : A). In x (y ∷ ys) × (p x ≡ true) in
-    let on : p y ≡ false → (o : Option A) → MatchOption o ((x : A) → In x ys → p x ≡ false) (λ x. In x ys × (p x ≡ true)) → MatchOption o none some = λ e o. elim o as (λ o. MatchOption o ((x : A) → In x ys → p x ≡ false) (λ x. In x ys × (p x ≡ true)) → MatchOption o none some) [
+    let on : p y ≡ false → (o : Option A) → MatchOption o ((x : A) → In x ys → p x ≡ false) (λ x. In x ys × (p x ≡ true))
+    → MatchOption o none some = λ e o. elim o as (λ o. MatchOption o ((x : A) → In x ys → p x ≡ false) (λ x. In x ys × (p x ≡ true)) → MatchOption o none some) [
       | None ↦ λ f x m. elim m [ inl same ↦ subst (λ z. p z ≡ false) same e | inr n ↦ f x n ]
       | Some z ↦ λ r. (inr r.0, r.1)
     ] in
@@ -95,7 +98,11 @@ pub Apart-push : {A B : Type 0} (f : A → B) (xs : List A) (o : Option A) → A
 Apart-push f [] None h new = tt
 Apart-push f [] (Some y) h new = (tt, tt)
 Apart-push f (x ∷ xs) o h new = (
-  all_from_In (λ z. f x ≢ f z) (xs ++ option_to_list o) (λ z m. elim (In-append z xs (option_to_list o) m) [ inl n ↦ In_from_all (λ w. f x ≢ f w) z xs h.0 n | inr n ↦ new x z (inl refl) (In-option z o n) ]),
+  all_from_In (λ z. f x ≢ f z) (xs ++ option_to_list o) (λ z m. elim (In-append z xs (option_to_list o) m) [
+    | inl n ↦ In_from_all (λ w. f x ≢ f w) z xs h.0 n
+    | inr n ↦ new x z (inl refl)
+        (In-option z o n)
+  ]),
   Apart-push f xs o h.1 (λ z y m e. new z y (inr m) e),
 )
 
@@ -119,7 +126,8 @@ none_filtered p (x ∷ xs) f = rw (f x (inl refl)) (none_filtered p xs (λ y h. 
 pub filter-find : {A B : Type 0} (f : A → B) (p : A → Bool) (xs : List A) → Apart f xs → ((x y : A) → p x ≡ true → p y ≡ true → f x ≡ f y) → filter p xs ≡ option_to_list (find p xs)
 filter-find f p [] h agree = refl
 filter-find {A} f p (x ∷ xs) h agree =
-    let by : (b : Bool) → p x ≡ b → cond b (x ∷ filter p xs) (filter p xs) ≡ option_to_list (cond b (Some x) (find p xs)) = λ b. elim b as (λ b. p x ≡ b → cond b (x ∷ filter p xs) (filter p xs) ≡ option_to_list (cond b (Some x) (find p xs))) [
+    let by : (b : Bool) → p x ≡ b → cond b (x ∷ filter p xs) (filter p xs) ≡ option_to_list (cond b (Some x) (find p xs)) =
+    λ b. elim b as (λ b. p x ≡ b → cond b (x ∷ filter p xs) (filter p xs) ≡ option_to_list (cond b (Some x) (find p xs))) [
       | true ↦ λ e. ap (λ (l : List A). x ∷ l) (none_filtered p xs (λ y m. false_from_ne_true (p y) (λ g. In_from_all (λ w. f x ≢ f w) y xs h.0 m (agree x y e g))))
       | false ↦ λ e. filter-find f p xs h.1 agree
     ] in

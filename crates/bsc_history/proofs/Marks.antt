@@ -1,4 +1,5 @@
 -- The mark that was kept as a connection joined, in a longer history.
+-- It serves many crates above.
 use Rattle.std.proofs.Common.{◌≡◌, ℕ, Bool, true, false, cond, List, [], ◌∷◌, ◌++◌, find, Option, Some, None, refl, ap, ◌∙◌}
 use Rattle.std.specs.List.{list_any}
 use Rattle.std.specs.Option.{option_or, option_and_then}
@@ -20,7 +21,8 @@ not_found (s ∷ S) c h = let two = or_parts (joins c s.entry) (list_any (joins 
 pub mark_grows : (S T : List Stamped) (c : ℕ) (m : Mark) → mark_of S c ≡ Some m → mark_of (S ++ T) c ≡ Some m
 mark_grows S T c m h =
     let mark = option_and_then (λ (s : Stamped). s.mark) in
-    let on : (o : Option Stamped) → mark o ≡ Some m → mark (option_or o (found c T)) ≡ Some m = λ o. elim o as (λ o. mark o ≡ Some m → mark (option_or o (found c T)) ≡ Some m) [ None ↦ λ e. cc | Some s ↦ λ e. e ] in
+    let on : (o : Option Stamped) → mark o ≡ Some m → mark (option_or o (found c T)) ≡ Some m =
+    λ o. elim o as (λ o. mark o ≡ Some m → mark (option_or o (found c T)) ≡ Some m) [ None ↦ λ e. cc | Some s ↦ λ e. e ] in
     ap mark (find-append (λ (s : Stamped). joins c s.entry) S T) ∙ on (found c S) h
 
 -- The mark of who joins by the newest entry is the one kept with that entry.

@@ -1,5 +1,7 @@
 -- Each definition at a history with one entry more.
-use Rattle.std.proofs.Common.{◌≡◌, ℕ, ◌+◌, ◌==◌, Bool, true, false, not, ◌&&◌, ◌||◌, cond, List, [], ◌∷◌, ◌++◌, fold, filter, sum_by, flat_map, Option, Some, None, is_none, option_to_list, refl, ap, sym, ◌∙◌, append_assoc, append-nil}
+-- It serves clauses of functions of `laws`.
+use Rattle.std.proofs.Common.{◌≡◌, ℕ, ◌+◌, ◌==◌, Bool, true, false, not, ◌&&◌, ◌||◌, cond, List, [], ◌∷◌, ◌++◌, fold, filter, sum_by, flat_map, Option, Some, None, is_none}
+use Rattle.std.proofs.Common.{option_to_list, refl, ap, sym, ◌∙◌, append_assoc, append-nil}
 use Rattle.std.specs.List.{list_any, AllByRecursion}
 use Rattle.std.specs.Option.{option_or}
 use Rattle.std.proofs.lemmas.List.Elements.{filter-append}
@@ -28,7 +30,8 @@ use Rattle.bsc_lemmas.proofs.Options.{or_assoc, or_none}
 
 moments_after-more : (G es : List Entry) (e : Entry) → moments_after G (es ++ e ∷ []) ≡ moments_after G es ++ moment (G ++ es) e ∷ []
 moments_after-more G [] e = ap (λ (F : List Entry). moment F e ∷ []) (sym (append-nil G))
-moments_after-more G (x ∷ es) e = ap (λ (l : List Moment). moment G x ∷ l) (moments_after-more (G ++ x ∷ []) es e ∙ ap (λ (F : List Entry). moments_after (G ++ x ∷ []) es ++ moment F e ∷ []) (append_assoc G (x ∷ []) es))
+moments_after-more G (x ∷ es) e = ap (λ (l : List Moment). moment G x ∷ l)
+    (moments_after-more (G ++ x ∷ []) es e ∙ ap (λ (F : List Entry). moments_after (G ++ x ∷ []) es ++ moment F e ∷ []) (append_assoc G (x ∷ []) es))
 
 pub moments-more : (H : List Entry) (e : Entry) → moments (H ++ e ∷ []) ≡ moments H ++ moment H e ∷ []
 moments-more H e = moments_after-more [] H e
@@ -56,7 +59,8 @@ first_end-more c (x ∷ es) e = ap (option_or (end_by c x)) (first_end-more c es
 pub ended-more : (H : List Entry) (e : Entry) (c : ℕ) → ended (H ++ e ∷ []) c ≡ option_or (ended H c) (cond (list_any (joins c) H) (end_by c e) None)
 unfolding ended
 ended-more [] e c = elim (joins c e) as (λ b. cond {A = Option End} b None None ≡ None) [ true ↦ refl | false ↦ refl ]
-ended-more (x ∷ H) e c = elim (joins c x) as (λ b. cond b (first_end c (H ++ e ∷ [])) (ended (H ++ e ∷ []) c) ≡ option_or (cond b (first_end c H) (ended H c)) (cond (b || list_any (joins c) H) (end_by c e) None)) [ true ↦ first_end-more c H e | false ↦ ended-more H e c ]
+ended-more (x ∷ H) e c = elim (joins c x) as (λ b. cond b (first_end c (H ++ e ∷ [])) (ended (H ++ e ∷ []) c)
+    ≡ option_or (cond b (first_end c H) (ended H c)) (cond (b || list_any (joins c) H) (end_by c e) None)) [ true ↦ first_end-more c H e | false ↦ ended-more H e c ]
 
 -- connections
 
@@ -64,14 +68,16 @@ filter_both : (p q r : Connection → Bool) → ((x : Connection) → r x ≡ (p
 filter_both p q r h None = refl
 filter_both p q r h (Some x) = ap (λ (b : Bool). cond b (x ∷ []) []) (h x) ∙ elim (p x) as (λ b. cond (b && q x) (x ∷ []) [] ≡ filter q (cond b (x ∷ []) [])) [ true ↦ refl | false ↦ refl ]
 
-joined_where-more : (test : ℕ → List Entry → Bool) (also : ℕ → Entry → Bool) → ((c : ℕ) (es : List Entry) (e : Entry) → test c (es ++ e ∷ []) ≡ (test c es && also c e)) → (H : List Entry) (e : Entry) → joined_where test (H ++ e ∷ []) ≡ filter (λ x. also x.number e) (joined_where test H) ++ filter (λ x. test x.number []) (option_to_list (connection_of e))
+joined_where-more : (test : ℕ → List Entry → Bool) (also : ℕ → Entry → Bool) → ((c : ℕ) (es : List Entry) (e : Entry) → test c (es ++ e ∷ []) ≡ (test c es && also c e))
+    → (H : List Entry) (e : Entry) → joined_where test (H ++ e ∷ []) ≡ filter (λ x. also x.number e) (joined_where test H) ++ filter (λ x. test x.number []) (option_to_list (connection_of e))
 unfolding joined_where
 joined_where-more test also splits [] e = append-nil (filter (λ x. test x.number []) (option_to_list (connection_of e)))
 joined_where-more test also splits (x ∷ H) e =
     let new = filter (λ (y : Connection). test y.number []) (option_to_list (connection_of e)) in
     let keep = λ (y : Connection). also y.number e in
     let here = filter (λ (y : Connection). test y.number H) (option_to_list (connection_of x)) in
-    let one : filter (λ y. test y.number (H ++ e ∷ [])) (option_to_list (connection_of x)) ≡ filter keep here = filter_both (λ y. test y.number H) keep (λ y. test y.number (H ++ e ∷ [])) (λ y. splits y.number H e) (connection_of x) in
+    let one : filter (λ y. test y.number (H ++ e ∷ [])) (option_to_list (connection_of x)) ≡ filter keep here =
+    filter_both (λ y. test y.number H) keep (λ y. test y.number (H ++ e ∷ [])) (λ y. splits y.number H e) (connection_of x) in
     ap (λ (l : List Connection). l ++ joined_where test (H ++ e ∷ [])) one
     ∙ ap (λ (l : List Connection). filter keep here ++ l) (joined_where-more test also splits H e)
     ∙ sym (append_assoc (filter keep here) (filter keep (joined_where test H)) new)
@@ -92,15 +98,19 @@ not_or false b = refl
 pub live-more : (H : List Entry) (e : Entry) → live (H ++ e ∷ []) ≡ filter (λ x. is_none (end_by x.number e)) (live H) ++ option_to_list (connection_of e)
 live-more H e =
     let splits = λ (c : ℕ) (es : List Entry) (x : Entry). ap is_none (first_end-more c es x) ∙ none_or (first_end c es) (end_by c x) in
-    joined_where-more (λ c after. is_none (first_end c after)) (λ c x. is_none (end_by c x)) splits H e ∙ ap (λ (l : List Connection). filter (λ x. is_none (end_by x.number e)) (live H) ++ l) (filter_all (connection_of e))
+    joined_where-more (λ c after. is_none (first_end c after)) (λ c x. is_none (end_by c x)) splits H e
+    ∙ ap (λ (l : List Connection). filter (λ x. is_none (end_by x.number e)) (live H) ++ l) (filter_all (connection_of e))
 
 pub unleft-more : (H : List Entry) (e : Entry) → unleft (H ++ e ∷ []) ≡ filter (λ x. not (leaves x.number e)) (unleft H) ++ option_to_list (connection_of e)
 unleft-more H e =
-    let splits = λ (c : ℕ) (es : List Entry) (x : Entry). ap not (list_any-append (leaves c) es (x ∷ []) ∙ ap (λ (b : Bool). list_any (leaves c) es || b) (or_false (leaves c x))) ∙ not_or (list_any (leaves c) es) (leaves c x) in
-    joined_where-more (λ c after. not (list_any (leaves c) after)) (λ c x. not (leaves c x)) splits H e ∙ ap (λ (l : List Connection). filter (λ x. not (leaves x.number e)) (unleft H) ++ l) (filter_all (connection_of e))
+    let splits = λ (c : ℕ) (es : List Entry) (x : Entry). ap not (list_any-append (leaves c) es (x ∷ []) ∙ ap (λ (b : Bool). list_any (leaves c) es || b) (or_false (leaves c x)))
+    ∙ not_or (list_any (leaves c) es) (leaves c x) in
+    joined_where-more (λ c after. not (list_any (leaves c) after)) (λ c x. not (leaves c x)) splits H e
+    ∙ ap (λ (l : List Connection). filter (λ x. not (leaves x.number e)) (unleft H) ++ l) (filter_all (connection_of e))
 
 pub joined-more : (H : List Entry) (e : Entry) → joined (H ++ e ∷ []) ≡ joined H ++ option_to_list (connection_of e)
-joined-more H e = joined_where-more (λ c after. true) (λ c x. true) (λ c es x. refl) H e ∙ ap (λ (l : List Connection). l ++ filter (λ x. true) (option_to_list (connection_of e))) (filter_true (joined H)) ∙ ap (λ (l : List Connection). joined H ++ l) (filter_all (connection_of e))
+joined-more H e = joined_where-more (λ c after. true) (λ c x. true) (λ c es x. refl) H e
+    ∙ ap (λ (l : List Connection). l ++ filter (λ x. true) (option_to_list (connection_of e))) (filter_true (joined H)) ∙ ap (λ (l : List Connection). joined H ++ l) (filter_all (connection_of e))
 
 -- an entry that ends nobody, and by which nobody joins
 
@@ -178,7 +188,8 @@ Legal-front a H e legal =
     (record { lawful = r.0 }, r.1)
 
 -- What holds of no entries, and stays with each lawful one, holds of every legal history.
-along_from : (a : About) (P : List Entry → Type 0) → ((G : List Entry) (e : Entry) → Legal a G → P G → Lawful a (moment G e) → P (G ++ e ∷ [])) → (G es : List Entry) → Legal a G → P G → AllByRecursion (Lawful a) (moments_after G es) → P (G ++ es)
+along_from : (a : About) (P : List Entry → Type 0) → ((G : List Entry) (e : Entry) → Legal a G → P G → Lawful a (moment G e) → P (G ++ e ∷ [])) → (G es : List Entry) → Legal a G → P G
+    → AllByRecursion (Lawful a) (moments_after G es) → P (G ++ es)
 along_from a P more G [] legal p h = rw append-nil p
 along_from a P more G (x ∷ es) legal p h =
     let now = more G x legal p h.0 in

@@ -1,4 +1,5 @@
 -- What an answer unfolds to compute this crate's definitions on a literal history.
+-- It serves many crates above.
 use Rattle.std.specs.Prelude.{⊤}
 use Rattle.bsc_octets.specs.Envelopes.{envelope_of}
 use Rattle.bsc_octets.specs.Forwarding.{out}

@@ -1,4 +1,5 @@
 -- A first part of a history, and what stays as the history grows.
+-- It serves the clauses of `frames_enter_by_forwards`.
 use Rattle.std.proofs.Common.{◌≡◌, ℕ, ◌==◌, Bool, true, ◌||◌, List, [], ◌∷◌, ◌++◌, Option, Some, None, is_some, option_to_list, refl, ap, sym, ◌∙◌, subst, append_assoc, append-nil}
 use Rattle.std.specs.List.{list_any, AllByRecursion}
 use Rattle.std.specs.Option.{option_or}
@@ -17,7 +18,8 @@ use Rattle.bsc_history.proofs.Common.{joined-append}
 
 -- legality
 
-pub All-parts : (P : Moment → Type 0) (G es rest : List Entry) → AllByRecursion P (moments_after G (es ++ rest)) → AllByRecursion P (moments_after G es) × AllByRecursion P (moments_after (G ++ es) rest)
+pub All-parts : (P : Moment → Type 0) (G es rest : List Entry) → AllByRecursion P (moments_after G (es ++ rest)) → AllByRecursion P (moments_after G es)
+    × AllByRecursion P (moments_after (G ++ es) rest)
 All-parts P G [] rest h = (tt, rw append-nil h)
 All-parts P G (e ∷ es) rest h =
     let r = All-parts P (G ++ e ∷ []) es rest h.1 in

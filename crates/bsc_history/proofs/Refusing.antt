@@ -1,4 +1,5 @@
 -- A connect that is refused changes nothing but its entry and its count.
+-- It serves the clauses of `refusal_changes_none`.
 use Rattle.std.proofs.Common.{◌≡◌, ℕ, ◌+◌, List, [], ◌∷◌, ◌++◌, map, fold, None, refl, ap, ◌∙◌, append-nil}
 use Rattle.std.proofs.Math.Nat.{add-zero}
 use Rattle.bsc_history.specs.declared.limits.About.{About}
@@ -21,7 +22,8 @@ no_looks [] h = refl
 no_looks (k ∷ ks) h = cc
 
 -- the counts with one refused connect more
-one_more : (k : Counts) → plus k (record { joined = 0; replaced = 0; refused = 1; unicasts = 0; broadcasts = 0; appended = 0; dropped = 0; full = 0; missed = 0 }) ≡ record k { refused = k.refused + 1 }
+one_more : (k : Counts) → plus k (record { joined = 0; replaced = 0; refused = 1; unicasts = 0; broadcasts = 0; appended = 0; dropped = 0; full = 0; missed = 0 })
+    ≡ record k { refused = k.refused + 1 }
 one_more k = λ i. record {
   joined = add-zero k.joined i;
   replaced = add-zero k.replaced i;

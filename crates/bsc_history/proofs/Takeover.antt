@@ -1,4 +1,5 @@
 -- Who joins holds its address, and takes over from its device's live connection.
+-- It serves the clauses of `join_takes_over`.
 use Rattle.std.proofs.Common.{◌≡◌, inl, inr, ℕ, ◌==◌, Bool, true, false, cond, List, [], ◌∷◌, Option, Some, None, MatchOption, is_none, is_some, refl, ap, sym, ◌∙◌, subst}
 use Rattle.std.specs.List.{list_any}
 use Rattle.std.specs.Option.{option_or}
@@ -34,7 +35,8 @@ live_In x (y ∷ ys) (inr m) = elim (y.number == x.number) as (λ b. is_some (co
 of_device_live : (H : List Entry) (who : Identity) (k : ℕ) → number_of (of_device H who.device) ≡ Some k → is_live H k ≡ true
 of_device_live H who k h =
     let p = λ (c : Connection). same_device c.who.device who.device in
-    let on : (o : Option Connection) → MatchOption o ((z : Connection) → In z (live H) → p z ≡ false) (λ z. In z (live H) × (p z ≡ true)) → number_of o ≡ Some k → is_live H k ≡ true = λ o. elim o as (λ o. MatchOption o ((z : Connection) → In z (live H) → p z ≡ false) (λ z. In z (live H) × (p z ≡ true)) → number_of o ≡ Some k → is_live H k ≡ true) [
+    let on : (o : Option Connection) → MatchOption o ((z : Connection) → In z (live H) → p z ≡ false) (λ z. In z (live H) × (p z ≡ true)) → number_of o ≡ Some k
+    → is_live H k ≡ true = λ o. elim o as (λ o. MatchOption o ((z : Connection) → In z (live H) → p z ≡ false) (λ z. In z (live H) × (p z ≡ true)) → number_of o ≡ Some k → is_live H k ≡ true) [
       | None ↦ λ f g. cc
       | Some x ↦ λ f g. (let same : x.number ≡ k = cc in subst (λ n. is_some (numbered n (live H)) ≡ true) same (live_In x (live H) f.0))
     ] in
@@ -51,6 +53,8 @@ join_takes_over a H legal e who c replaced lawful is said =
       λ k old. (
           let now = of_device_live H who k (sym took ∙ old) in
           let came = and_parts (list_any (joins k) H) (is_none (ended H k)) (sym (live_until_ended a H legal k) ∙ now) in
-          let ends : end_by k e ≡ Some Replaced = ap (λ (call : Call). option_or (end_by_call k call) (end_by_reply k e.reply)) is ∙ ap (end_by_reply k) said ∙ ap (λ (o : Option ℕ). end_by_reply k (Joined c o)) old ∙ ap (λ (b : Bool). cond b (Some Replaced) None) (eq-eqb k k refl) in
-          ended-more H e k ∙ ap (λ (w : Option End). option_or w (cond (list_any (joins k) H) (end_by k e) None)) (is_None (ended H k) came.1) ∙ ap (λ (b : Bool). cond b (end_by k e) None) came.0 ∙ ends),
+          let ends : end_by k e ≡ Some Replaced = ap (λ (call : Call). option_or (end_by_call k call) (end_by_reply k e.reply)) is ∙ ap (end_by_reply k) said
+          ∙ ap (λ (o : Option ℕ). end_by_reply k (Joined c o)) old ∙ ap (λ (b : Bool). cond b (Some Replaced) None) (eq-eqb k k refl) in
+          ended-more H e k ∙ ap (λ (w : Option End). option_or w (cond (list_any (joins k) H) (end_by k e) None)) (is_None (ended H k) came.1)
+          ∙ ap (λ (b : Bool). cond b (end_by k e) None) came.0 ∙ ends),
     )

@@ -1,5 +1,7 @@
 -- In a legal history connections are numbered in order, no two live ones have one address or one device, and nothing enters after an end.
-use Rattle.std.proofs.Common.{◌≡◌, inl, inr, ℕ, zero, suc, ◌==◌, ◌+◌, ◌<◌, Bool, true, false, not, ◌||◌, cond, eqb, if◌then◌else◌, List, [], ◌∷◌, ◌++◌, length, filter, Option, Some, None, is_none, MatchOption, option_to_list, refl, ap, sym, ◌∙◌, subst, add-zero, arith, length-append, append-nil}
+-- It serves clauses of functions of `laws`.
+use Rattle.std.proofs.Common.{◌≡◌, inl, inr, ℕ, zero, suc, ◌==◌, ◌+◌, ◌<◌, Bool, true, false, not, ◌||◌, cond, eqb, if◌then◌else◌, List, [], ◌∷◌, ◌++◌, length, filter, Option}
+use Rattle.std.proofs.Common.{Some, None, is_none, MatchOption, option_to_list, refl, ap, sym, ◌∙◌, subst, add-zero, arith, length-append, append-nil}
 use Rattle.std.specs.Bool.{⊤}
 use Rattle.std.proofs.lemmas.List.{map-append}
 use Rattle.std.specs.List.{list_any, range_with_len}
@@ -36,7 +38,8 @@ use Rattle.bsc_octets.proofs.Common.{device_same, vmac_same}
 
 texts_refl : (xs ys : List ℕ) → xs ≡ ys → pointwise eqb xs ys ≡ true
 texts_refl xs ys e =
-    let on : (b : Bool) → b ≡ pointwise eqb xs ys → pointwise eqb xs ys ≡ true = λ b. elim b as (λ b. b ≡ pointwise eqb xs ys → pointwise eqb xs ys ≡ true) [ true ↦ λ h. sym h | false ↦ λ h. absurd (other_text xs ys h e) ] in
+    let on : (b : Bool) → b ≡ pointwise eqb xs ys → pointwise eqb xs ys ≡ true =
+    λ b. elim b as (λ b. b ≡ pointwise eqb xs ys → pointwise eqb xs ys ≡ true) [ true ↦ λ h. sym h | false ↦ λ h. absurd (other_text xs ys h e) ] in
     on (pointwise eqb xs ys) refl
 
 pub vmac_refl : (v w : Vmac) → v ≡ w → same_vmac v w ≡ true
@@ -47,7 +50,9 @@ device_refl u w e = texts_refl u.0 w.0 (ap (λ (x : DeviceId). x.0) e)
 
 -- what a reply Joined says
 
-chosen : (s u f : Bool) (r : Option ℕ) (rows n c : ℕ) (o p : Option ℕ) → Joined c p ≡ (if s then Refused RefusedStopped else if u then Refused (Duplicate None) else refused_as_held r (if f then Refused (TableFull rows) else Joined n o)) → (c ≡ n) × (p ≡ o) × (r ≡ None)
+chosen : (s u f : Bool) (r : Option ℕ) (rows n c : ℕ) (o p : Option ℕ)
+    → Joined c p ≡ (if s then Refused RefusedStopped else if u then Refused (Duplicate None) else refused_as_held r (if f then Refused (TableFull rows) else Joined n o)) → (c ≡ n) × (p ≡ o)
+    × (r ≡ None)
 chosen true u f r rows n c o p h = cc
 chosen false true f r rows n c o p h = cc
 chosen false false f (Some k) rows n c o p h = cc
@@ -80,7 +85,8 @@ range-push a (suc n) =
 length-push : (J : List Connection) (x : Connection) → length (J ++ x ∷ []) ≡ length J + 1
 length-push J x = length-append J (x ∷ [])
 
-numbers_step : (J : List Connection) (o : Option Connection) → numbers J ≡ range_with_len 1 (length J) → ((x : Connection) → o ≡ Some x → x.number ≡ 1 + length J) → numbers (J ++ option_to_list o) ≡ range_with_len 1 (length (J ++ option_to_list o))
+numbers_step : (J : List Connection) (o : Option Connection) → numbers J ≡ range_with_len 1 (length J) → ((x : Connection) → o ≡ Some x → x.number ≡ 1 + length J)
+    → numbers (J ++ option_to_list o) ≡ range_with_len 1 (length (J ++ option_to_list o))
 numbers_step J None h next = rw append-nil h
 numbers_step J (Some x) h next =
     map-append (λ (c : Connection). c.number) J (x ∷ [])
@@ -89,7 +95,8 @@ numbers_step J (Some x) h next =
     ∙ range-push 1 (length J)
     ∙ ap (range_with_len 1) (sym (length-push J x))
 
-fresh_step : (J : List Connection) (o : Option Connection) (c : ℕ) → ((x : Connection) → o ≡ Some x → x.number ≡ 1 + length J) → length (J ++ option_to_list o) < c → (is_number c o ≡ false) × (length J < c)
+fresh_step : (J : List Connection) (o : Option Connection) (c : ℕ) → ((x : Connection) → o ≡ Some x → x.number ≡ 1 + length J) → length (J ++ option_to_list o) < c → (is_number c o ≡ false)
+    × (length J < c)
 fresh_step J None c next h = (refl, rw append-nil at h)
 fresh_step J (Some x) c next h =
     let long : length J + 1 < c = rw length-push at h in
@@ -123,7 +130,8 @@ replaced_ends c n k e r same h =
 pub device_clash : (H : List Entry) (e : Entry) (x y : Connection) → OneOfDevice H → Comes H e.reply y → In x (live H) → is_none (end_by x.number e) ≡ true → x.who.device ≡ y.who.device → ⊥
 device_clash H e x y one new m stays same =
     let p = λ (c : Connection). same_device c.who.device y.who.device in
-    let on : (o : Option Connection) → MatchOption o ((z : Connection) → In z (live H) → p z ≡ false) (λ z. In z (live H) × (p z ≡ true)) → e.reply ≡ Joined y.number (number_of o) → ⊥ = λ o. elim o as (λ o. MatchOption o ((z : Connection) → In z (live H) → p z ≡ false) (λ z. In z (live H) × (p z ≡ true)) → e.reply ≡ Joined y.number (number_of o) → ⊥) [
+    let on : (o : Option Connection) → MatchOption o ((z : Connection) → In z (live H) → p z ≡ false) (λ z. In z (live H) × (p z ≡ true)) → e.reply ≡ Joined y.number (number_of o)
+    → ⊥ = λ o. elim o as (λ o. MatchOption o ((z : Connection) → In z (live H) → p z ≡ false) (λ z. In z (live H) × (p z ≡ true)) → e.reply ≡ Joined y.number (number_of o) → ⊥) [
       | None ↦ λ f r. both_ways (p x) (f x m) (device_refl x.who.device y.who.device same)
       | Some c ↦ λ f r. (
           let it : c ≡ x = same_one (λ (z : Connection). z.who.device) c x (live H) one f.0 m (device_same c.who.device y.who.device f.1 ∙ sym same) in
@@ -134,7 +142,8 @@ device_clash H e x y one new m stays same =
 pub vmac_clash : (H : List Entry) (e : Entry) (x y : Connection) → OneHolder H → OneOfDevice H → Comes H e.reply y → In x (live H) → is_none (end_by x.number e) ≡ true → x.who.vmac ≡ y.who.vmac → ⊥
 vmac_clash H e x y holders one new m stays same =
     let p = λ (c : Connection). same_vmac c.who.vmac y.who.vmac in
-    let on : (o : Option Connection) → MatchOption o ((z : Connection) → In z (live H) → p z ≡ false) (λ z. In z (live H) × (p z ≡ true)) → rival y.who o ≡ None → ⊥ = λ o. elim o as (λ o. MatchOption o ((z : Connection) → In z (live H) → p z ≡ false) (λ z. In z (live H) × (p z ≡ true)) → rival y.who o ≡ None → ⊥) [
+    let on : (o : Option Connection) → MatchOption o ((z : Connection) → In z (live H) → p z ≡ false) (λ z. In z (live H) × (p z ≡ true)) → rival y.who o ≡ None
+    → ⊥ = λ o. elim o as (λ o. MatchOption o ((z : Connection) → In z (live H) → p z ≡ false) (λ z. In z (live H) × (p z ≡ true)) → rival y.who o ≡ None → ⊥) [
       | None ↦ λ f r. both_ways (p x) (f x m) (vmac_refl x.who.vmac y.who.vmac same)
       | Some c ↦ λ f r. (
           let it : c ≡ x = same_one (λ (z : Connection). z.who.vmac) c x (live H) holders f.0 m (vmac_same c.who.vmac y.who.vmac f.1 ∙ sym same) in
@@ -167,8 +176,10 @@ settled_more a G e legal s lawful =
     let next : (x : Connection) → o ≡ Some x → x.number ≡ 1 + length (joined G) = λ x same. (new x same).0 in
     record {
       numbered = rw joined-more (numbers_step (joined G) o s.numbered next);
-      holders = rw live-more (Apart-push (λ (c : Connection). c.who.vmac) (filter K (live G)) o (Apart-filter (λ (c : Connection). c.who.vmac) K (live G) s.holders) (λ x y m same agree. let r = In-filter K x (live G) m in vmac_clash G e x y s.holders s.devices (new y same) r.0 r.1 agree));
-      devices = rw live-more (Apart-push (λ (c : Connection). c.who.device) (filter K (live G)) o (Apart-filter (λ (c : Connection). c.who.device) K (live G) s.devices) (λ x y m same agree. let r = In-filter K x (live G) m in device_clash G e x y s.devices (new y same) r.0 r.1 agree));
+      holders = rw live-more (Apart-push (λ (c : Connection). c.who.vmac) (filter K (live G)) o (Apart-filter (λ (c : Connection). c.who.vmac) K (live G) s.holders)
+          (λ x y m same agree. let r = In-filter K x (live G) m in vmac_clash G e x y s.holders s.devices (new y same) r.0 r.1 agree));
+      devices = rw live-more (Apart-push (λ (c : Connection). c.who.device) (filter K (live G)) o (Apart-filter (λ (c : Connection). c.who.device) K (live G) s.devices)
+          (λ x y m same agree. let r = In-filter K x (live G) m in device_clash G e x y s.devices (new y same) r.0 r.1 agree));
       fresh = λ c h. (
           let r = fresh_step (joined G) o c next (rw joined-more at h) in
           list_any-append (joins c) G (e ∷ []) ∙ ap (λ (b : Bool). b || (joins c e || false)) (s.fresh c r.1) ∙ ap (λ (b : Bool). b || false) r.0);
@@ -177,11 +188,13 @@ settled_more a G e legal s lawful =
           elim (In-append x (filter K (live G)) (option_to_list o) (subst (In x) (live-more G e) m)) [
             | inl n ↦ (
                 let r = In-filter K x (live G) n in
-                more ∙ ap (λ (w : Option End). option_or w (cond (list_any (joins x.number) G) (end_by x.number e) None)) (s.current x r.0) ∙ ap (λ (w : Option End). cond (list_any (joins x.number) G) w None) (is_None (end_by x.number e) r.1) ∙ cond_same (list_any (joins x.number) G) None)
+                more ∙ ap (λ (w : Option End). option_or w (cond (list_any (joins x.number) G) (end_by x.number e) None)) (s.current x r.0)
+                ∙ ap (λ (w : Option End). cond (list_any (joins x.number) G) w None) (is_None (end_by x.number e) r.1) ∙ cond_same (list_any (joins x.number) G) None)
             | inr n ↦ (
                 let n = next x (In-option x o n) in
                 let none = s.fresh x.number (omega arith) in
-                more ∙ ap (λ (w : Option End). option_or w (cond (list_any (joins x.number) G) (end_by x.number e) None)) (not_joined G x.number none) ∙ ap (λ (b : Bool). cond b (end_by x.number e) None) none)
+                more ∙ ap (λ (w : Option End). option_or w (cond (list_any (joins x.number) G) (end_by x.number e) None)) (not_joined G x.number none)
+                ∙ ap (λ (b : Bool). cond b (end_by x.number e) None) none)
           ]);
     }
 
@@ -198,7 +211,8 @@ none_after_end a H legal c ending e h =
           let o = out_of H sender m in
           let p = takes a o (sent a H c) e.looks c in
           let none : list_any p (meant H sender m) ≡ false = none_passes p (meant H sender m) (λ x mem. (
-          let other : (x.number == c) ≡ false = ne_eqb x.number c (λ same. let g = s.current x (In-filter (means m sender) x (live H) mem).0 in let k = subst (λ n. ended H n ≡ None) same g in let bad : ⊥ = cc in bad) in
+          let other : (x.number == c) ≡ false = ne_eqb x.number c (λ same. let g = s.current x (In-filter (means m sender) x (live H) mem).0 in
+          let k = subst (λ n. ended H n ≡ None) same g in let bad : ⊥ = cc in bad) in
           and_left (x.number == c) (not (is_too_long o x || is_found_full a (sent a H c) e.looks c)) other)) in
           ap (λ (b : Bool). cond b (o ∷ []) []) (and_right (is_live H sender) (list_any p (meant H sender m)) none))
       | Leave conn taken empties ↦ refl

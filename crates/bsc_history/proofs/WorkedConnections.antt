@@ -1,4 +1,5 @@
 -- Worked histories of connections: who joins, who is refused, who takes over, and how connections end.
+-- No clause needs it: worked examples.
 use Rattle.std.proofs.Common.{◌≡◌, List, [], ◌∷◌, ◌++◌, Some, None, refl}
 use Rattle.bsc_history.specs.declared.call.Call.TheVariants.{Connect, Forward, Leave, Stop, Count}
 use Rattle.bsc_history.specs.declared.ending.End.TheVariants.{Left, Replaced, Stopped as EndStopped}
@@ -13,7 +14,8 @@ use Rattle.bsc_history.specs.Counting.{counts}
 use Rattle.bsc_history.specs.Replies.{number_of, numbers}
 use Rattle.bsc_history.specs.Legality.{Legal}
 use Rattle.bsc_history.proofs.OnLiterals.{history_on_literals}
-use Rattle.bsc_history.proofs.WorkedPieces.{address, peer, peer_a, peer_b, peer_c, the_hub, hub_of_two_rows, hub_of_two_calls, short, long, unicast, unicast_from, broadcast, broadcast_from, entry, look, join, abc, lawful}
+use Rattle.bsc_history.proofs.WorkedPieces.{address, peer, peer_a, peer_b, peer_c, the_hub, hub_of_two_rows, hub_of_two_calls, short, long, unicast, unicast_from, broadcast}
+use Rattle.bsc_history.proofs.WorkedPieces.{broadcast_from, entry, look, join, abc, lawful}
 
 -- One joins, and holds its address.
 abbrev one_joins : List Entry
@@ -32,7 +34,8 @@ one_joins-says :
 unfolding history_on_literals
 one_joins-says = (refl, refl, refl, refl)
 
--- Who asks for an address that another device holds is refused, and so is who asks for the hub's own. A device that is live is refused another's address as well. Nobody ends by it, and each is counted.
+-- Who asks for an address that another device holds is refused, and so is who asks for the hub's own. A device that is live is refused
+-- another's address as well. Nobody ends by it, and each is counted.
 abbrev connects_are_refused : List Entry
 connects_are_refused =
     abc
@@ -44,7 +47,12 @@ connects_are_refused =
 
 connects_are_refused-legal : Legal the_hub connects_are_refused
 unfolding history_on_literals
-connects_are_refused-legal = record { lawful = (lawful refl refl refl refl, (lawful refl refl refl refl, (lawful refl refl refl refl, (lawful refl refl refl refl, (lawful refl refl refl refl, (lawful refl refl refl refl, (lawful refl refl refl refl, tt))))))) }
+connects_are_refused-legal = record {
+  lawful = (
+    lawful refl refl refl refl,
+    (lawful refl refl refl refl, (lawful refl refl refl refl, (lawful refl refl refl refl, (lawful refl refl refl refl, (lawful refl refl refl refl, (lawful refl refl refl refl, tt)))))),
+  );
+}
 
 connects_are_refused-says :
     (number_of (holder connects_are_refused (address 0x0A)) ≡ Some 1)
@@ -71,7 +79,21 @@ takeover_by_device =
 
 takeover_by_device-legal : Legal the_hub takeover_by_device
 unfolding history_on_literals
-takeover_by_device-legal = record { lawful = (lawful refl refl refl refl, (lawful refl refl refl refl, (lawful refl refl refl refl, (lawful refl refl refl refl, (lawful refl refl refl refl, (lawful refl refl refl refl, (lawful refl refl refl refl, (lawful refl refl refl refl, (lawful refl refl refl refl, (lawful refl refl refl refl, tt)))))))))) }
+takeover_by_device-legal = record {
+  lawful = (
+    lawful refl refl refl refl,
+    (
+      lawful refl refl refl refl,
+      (
+        lawful refl refl refl refl,
+        (
+          lawful refl refl refl refl,
+          (lawful refl refl refl refl, (lawful refl refl refl refl, (lawful refl refl refl refl, (lawful refl refl refl refl, (lawful refl refl refl refl, (lawful refl refl refl refl, tt)))))),
+        ),
+      ),
+    ),
+  );
+}
 
 takeover_by_device-says :
     (number_of (holder takeover_by_device (address 0x0A)) ≡ Some 4)
@@ -96,7 +118,12 @@ takeover_under_another_address =
 
 takeover_under_another_address-legal : Legal the_hub takeover_under_another_address
 unfolding history_on_literals
-takeover_under_another_address-legal = record { lawful = (lawful refl refl refl refl, (lawful refl refl refl refl, (lawful refl refl refl refl, (lawful refl refl refl refl, (lawful refl refl refl refl, (lawful refl refl refl refl, tt)))))) }
+takeover_under_another_address-legal = record {
+  lawful = (
+    lawful refl refl refl refl,
+    (lawful refl refl refl refl, (lawful refl refl refl refl, (lawful refl refl refl refl, (lawful refl refl refl refl, (lawful refl refl refl refl, tt))))),
+  );
+}
 
 takeover_under_another_address-says :
     (number_of (holder takeover_under_another_address (address 0x0A)) ≡ None)
@@ -120,7 +147,12 @@ table_full_until_one_leaves =
 
 table_full_until_one_leaves-legal : Legal hub_of_two_rows table_full_until_one_leaves
 unfolding history_on_literals
-table_full_until_one_leaves-legal = record { lawful = (lawful refl refl refl refl, (lawful refl refl refl refl, (lawful refl refl refl refl, (lawful refl refl refl refl, (lawful refl refl refl refl, (lawful refl refl refl refl, tt)))))) }
+table_full_until_one_leaves-legal = record {
+  lawful = (
+    lawful refl refl refl refl,
+    (lawful refl refl refl refl, (lawful refl refl refl refl, (lawful refl refl refl refl, (lawful refl refl refl refl, (lawful refl refl refl refl, tt))))),
+  );
+}
 
 table_full_until_one_leaves-says :
     (ended table_full_until_one_leaves 1 ≡ Some Left)
@@ -142,7 +174,12 @@ row_is_kept_until_left =
 
 row_is_kept_until_left-legal : Legal hub_of_two_rows row_is_kept_until_left
 unfolding history_on_literals
-row_is_kept_until_left-legal = record { lawful = (lawful refl refl refl refl, (lawful refl refl refl refl, (lawful refl refl refl refl, (lawful refl refl refl refl, (lawful refl refl refl refl, tt))))) }
+row_is_kept_until_left-legal = record {
+  lawful = (
+    lawful refl refl refl refl,
+    (lawful refl refl refl refl, (lawful refl refl refl refl, (lawful refl refl refl refl, (lawful refl refl refl refl, tt)))),
+  );
+}
 
 row_is_kept_until_left-says :
     (numbers (live row_is_kept_until_left) ≡ 2 ∷ 3 ∷ [])
@@ -164,7 +201,12 @@ stop_counts_and_ends_all =
 
 stop_counts_and_ends_all-legal : Legal the_hub stop_counts_and_ends_all
 unfolding history_on_literals
-stop_counts_and_ends_all-legal = record { lawful = (lawful refl refl refl refl, (lawful refl refl refl refl, (lawful refl refl refl refl, (lawful refl refl refl refl, (lawful refl refl refl refl, (lawful refl refl refl refl, (lawful refl refl refl refl, tt))))))) }
+stop_counts_and_ends_all-legal = record {
+  lawful = (
+    lawful refl refl refl refl,
+    (lawful refl refl refl refl, (lawful refl refl refl refl, (lawful refl refl refl refl, (lawful refl refl refl refl, (lawful refl refl refl refl, (lawful refl refl refl refl, tt)))))),
+  );
+}
 
 stop_counts_and_ends_all-says :
     (ended stop_counts_and_ends_all 1 ≡ Some EndStopped)

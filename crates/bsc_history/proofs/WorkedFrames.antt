@@ -1,4 +1,5 @@
 -- Worked histories of frames: each is legal, and what entered the outboxes, who is live and what was counted is computed.
+-- No clause needs it: worked examples.
 use Rattle.std.proofs.Common.{◌≡◌, List, [], ◌∷◌, ◌++◌, None, replicate, refl}
 use Rattle.bsc_history.specs.declared.call.Call.TheVariants.{Forward}
 use Rattle.bsc_history.specs.declared.entry.Entry.{Entry}
@@ -103,7 +104,12 @@ too_long_is_skipped =
 
 too_long_is_skipped-legal : Legal the_hub too_long_is_skipped
 unfolding history_on_literals
-too_long_is_skipped-legal = record { lawful = (lawful refl refl refl refl, (lawful refl refl refl refl, (lawful refl refl refl refl, (lawful refl refl refl refl, (lawful refl refl refl refl, (lawful refl refl refl refl, tt)))))) }
+too_long_is_skipped-legal = record {
+  lawful = (
+    lawful refl refl refl refl,
+    (lawful refl refl refl refl, (lawful refl refl refl refl, (lawful refl refl refl refl, (lawful refl refl refl refl, (lawful refl refl refl refl, tt))))),
+  );
+}
 
 too_long_is_skipped-says :
     (sent the_hub too_long_is_skipped 2 ≡ unicast_from 3 0x0A (replicate 1590 7) ∷ [])

@@ -1,4 +1,5 @@
 -- Worked histories of full outboxes: a unicast closes, a broadcast is missed.
+-- No clause needs it: worked examples.
 use Rattle.std.proofs.Common.{◌≡◌, List, [], ◌∷◌, ◌++◌, Some, None, replicate, refl}
 use Rattle.bsc_history.specs.declared.call.Call.TheVariants.{Forward, Leave, Count}
 use Rattle.bsc_history.specs.declared.ending.End.TheVariants.{Full}
@@ -27,7 +28,21 @@ full_outbox_closes =
 
 full_outbox_closes-legal : Legal hub_with_outboxes_of_two full_outbox_closes
 unfolding history_on_literals
-full_outbox_closes-legal = record { lawful = (lawful refl refl refl refl, (lawful refl refl refl refl, (lawful refl refl refl refl, (lawful refl refl refl refl, (lawful refl refl refl refl, (lawful refl refl refl refl, (lawful refl refl refl refl, (lawful refl refl refl refl, (lawful refl refl refl refl, tt))))))))) }
+full_outbox_closes-legal = record {
+  lawful = (
+    lawful refl refl refl refl,
+    (
+      lawful refl refl refl refl,
+      (
+        lawful refl refl refl refl,
+        (
+          lawful refl refl refl refl,
+          (lawful refl refl refl refl, (lawful refl refl refl refl, (lawful refl refl refl refl, (lawful refl refl refl refl, (lawful refl refl refl refl, tt))))),
+        ),
+      ),
+    ),
+  );
+}
 
 full_outbox_closes-says :
     (sent hub_with_outboxes_of_two full_outbox_closes 2 ≡ unicast_from 2 0x0A short ∷ unicast_from 3 0x0A short ∷ [])
@@ -50,7 +65,12 @@ taken_frame_makes_room =
 
 taken_frame_makes_room-legal : Legal hub_with_outboxes_of_two taken_frame_makes_room
 unfolding history_on_literals
-taken_frame_makes_room-legal = record { lawful = (lawful refl refl refl refl, (lawful refl refl refl refl, (lawful refl refl refl refl, (lawful refl refl refl refl, (lawful refl refl refl refl, (lawful refl refl refl refl, (lawful refl refl refl refl, tt))))))) }
+taken_frame_makes_room-legal = record {
+  lawful = (
+    lawful refl refl refl refl,
+    (lawful refl refl refl refl, (lawful refl refl refl refl, (lawful refl refl refl refl, (lawful refl refl refl refl, (lawful refl refl refl refl, (lawful refl refl refl refl, tt)))))),
+  );
+}
 
 taken_frame_makes_room-says :
     (sent hub_with_outboxes_of_two taken_frame_makes_room 2 ≡ unicast_from 2 0x0A short ∷ unicast_from 3 0x0A short ∷ unicast_from 4 0x0A short ∷ [])
@@ -71,7 +91,12 @@ full_outbox_misses =
 
 full_outbox_misses-legal : Legal hub_with_outboxes_of_two full_outbox_misses
 unfolding history_on_literals
-full_outbox_misses-legal = record { lawful = (lawful refl refl refl refl, (lawful refl refl refl refl, (lawful refl refl refl refl, (lawful refl refl refl refl, (lawful refl refl refl refl, (lawful refl refl refl refl, (lawful refl refl refl refl, tt))))))) }
+full_outbox_misses-legal = record {
+  lawful = (
+    lawful refl refl refl refl,
+    (lawful refl refl refl refl, (lawful refl refl refl refl, (lawful refl refl refl refl, (lawful refl refl refl refl, (lawful refl refl refl refl, (lawful refl refl refl refl, tt)))))),
+  );
+}
 
 full_outbox_misses-says :
     (sent hub_with_outboxes_of_two full_outbox_misses 2 ≡ unicast_from 2 0x0A short ∷ unicast_from 3 0x0A short ∷ broadcast_from 5 0x0A short ∷ [])
@@ -94,7 +119,12 @@ third_broadcast_is_missed =
 
 third_broadcast_is_missed-legal : Legal hub_with_outboxes_of_two third_broadcast_is_missed
 unfolding history_on_literals
-third_broadcast_is_missed-legal = record { lawful = (lawful refl refl refl refl, (lawful refl refl refl refl, (lawful refl refl refl refl, (lawful refl refl refl refl, (lawful refl refl refl refl, (lawful refl refl refl refl, (lawful refl refl refl refl, tt))))))) }
+third_broadcast_is_missed-legal = record {
+  lawful = (
+    lawful refl refl refl refl,
+    (lawful refl refl refl refl, (lawful refl refl refl refl, (lawful refl refl refl refl, (lawful refl refl refl refl, (lawful refl refl refl refl, (lawful refl refl refl refl, tt)))))),
+  );
+}
 
 third_broadcast_is_missed-says :
     (sent hub_with_outboxes_of_two third_broadcast_is_missed 2 ≡ broadcast_from 2 0x0A short ∷ broadcast_from 3 0x0A short ∷ [])
@@ -114,7 +144,12 @@ skipped_before_missed =
 
 skipped_before_missed-legal : Legal hub_with_outboxes_of_two skipped_before_missed
 unfolding history_on_literals
-skipped_before_missed-legal = record { lawful = (lawful refl refl refl refl, (lawful refl refl refl refl, (lawful refl refl refl refl, (lawful refl refl refl refl, (lawful refl refl refl refl, (lawful refl refl refl refl, tt)))))) }
+skipped_before_missed-legal = record {
+  lawful = (
+    lawful refl refl refl refl,
+    (lawful refl refl refl refl, (lawful refl refl refl refl, (lawful refl refl refl refl, (lawful refl refl refl refl, (lawful refl refl refl refl, tt))))),
+  );
+}
 
 skipped_before_missed-says : counts skipped_before_missed ≡ record { joined = 3; replaced = 0; refused = 0; unicasts = 2; broadcasts = 1; appended = 2; dropped = 1; full = 0; missed = 0 }
 unfolding history_on_literals

@@ -1,4 +1,5 @@
 -- Histories that no hub has, each for one wrong entry at its end.
+-- No clause needs it: worked examples.
 use Rattle.std.proofs.Common.{[], ◌∷◌, ◌++◌, replicate}
 use Rattle.bsc_history.specs.declared.call.Call.TheVariants.{Forward, Leave, Stop, Count}
 use Rattle.bsc_history.specs.declared.ending.End.TheVariants.{Left, Full}
@@ -16,12 +17,14 @@ unfolding history_on_literals
 second_number_first legal = let replied = legal.lawful.0.replied in cc
 
 -- A full outbox can't take one unicast more.
-appended_to_full : Legal hub_with_outboxes_of_two (abc ++ entry (Forward 1 (unicast 2 0x0B short)) (look 2 0 ∷ []) (Appended 2) ∷ entry (Forward 1 (unicast 3 0x0B short)) (look 2 0 ∷ []) (Appended 2) ∷ entry (Forward 1 (unicast 4 0x0B short)) (look 2 0 ∷ []) (Appended 2) ∷ []) → ⊥
+appended_to_full : Legal hub_with_outboxes_of_two (abc ++ entry (Forward 1 (unicast 2 0x0B short)) (look 2 0 ∷ []) (Appended 2)
+    ∷ entry (Forward 1 (unicast 3 0x0B short)) (look 2 0 ∷ []) (Appended 2) ∷ entry (Forward 1 (unicast 4 0x0B short)) (look 2 0 ∷ []) (Appended 2) ∷ []) → ⊥
 unfolding history_on_literals
 appended_to_full legal = let replied = legal.lawful.1.1.1.1.1.0.replied in cc
 
 -- A full outbox can't take one broadcast more.
-broadcast_to_full : Legal hub_with_outboxes_of_two (abc ++ entry (Forward 1 (unicast 2 0x0B short)) (look 2 0 ∷ []) (Appended 2) ∷ entry (Forward 1 (unicast 3 0x0B short)) (look 2 0 ∷ []) (Appended 2) ∷ entry (Forward 1 (broadcast 4 short)) (look 2 0 ∷ look 3 0 ∷ []) (SentAll (2 ∷ 3 ∷ []) [] []) ∷ []) → ⊥
+broadcast_to_full : Legal hub_with_outboxes_of_two (abc ++ entry (Forward 1 (unicast 2 0x0B short)) (look 2 0 ∷ []) (Appended 2)
+    ∷ entry (Forward 1 (unicast 3 0x0B short)) (look 2 0 ∷ []) (Appended 2) ∷ entry (Forward 1 (broadcast 4 short)) (look 2 0 ∷ look 3 0 ∷ []) (SentAll (2 ∷ 3 ∷ []) [] []) ∷ []) → ⊥
 unfolding history_on_literals
 broadcast_to_full legal = let replied = legal.lawful.1.1.1.1.1.0.replied in cc
 
@@ -31,7 +34,9 @@ unfolding history_on_literals
 missed_with_room legal = let replied = legal.lawful.1.1.1.0.replied in cc
 
 -- A connection that missed a broadcast isn't told that it has ended.
-ended_by_broadcast : Legal hub_with_outboxes_of_two (abc ++ entry (Forward 1 (unicast 2 0x0B short)) (look 2 0 ∷ []) (Appended 2) ∷ entry (Forward 1 (unicast 3 0x0B short)) (look 2 0 ∷ []) (Appended 2) ∷ entry (Forward 1 (broadcast 4 short)) (look 2 0 ∷ look 3 0 ∷ []) (SentAll (3 ∷ []) (2 ∷ []) []) ∷ entry (Forward 2 (unicast 5 0x0A short)) [] (NotCurrent Full) ∷ []) → ⊥
+ended_by_broadcast : Legal hub_with_outboxes_of_two (abc ++ entry (Forward 1 (unicast 2 0x0B short)) (look 2 0 ∷ []) (Appended 2)
+    ∷ entry (Forward 1 (unicast 3 0x0B short)) (look 2 0 ∷ []) (Appended 2) ∷ entry (Forward 1 (broadcast 4 short)) (look 2 0 ∷ look 3 0 ∷ []) (SentAll (3 ∷ []) (2 ∷ []) [])
+    ∷ entry (Forward 2 (unicast 5 0x0A short)) [] (NotCurrent Full) ∷ []) → ⊥
 unfolding history_on_literals
 ended_by_broadcast legal = let replied = legal.lawful.1.1.1.1.1.1.0.replied in cc
 
@@ -65,7 +70,8 @@ unfolding history_on_literals
 more_taken_than_entered legal = let found = legal.lawful.1.1.1.0.found in cc
 
 -- No look finds fewer taken than the look before it.
-fewer_taken_than_before : Legal the_hub (abc ++ entry (Forward 1 (unicast 2 0x0B short)) (look 2 0 ∷ []) (Appended 2) ∷ entry (Forward 1 (unicast 3 0x0B short)) (look 2 1 ∷ []) (Appended 2) ∷ entry (Forward 1 (unicast 4 0x0B short)) (look 2 0 ∷ []) (Appended 2) ∷ []) → ⊥
+fewer_taken_than_before : Legal the_hub (abc ++ entry (Forward 1 (unicast 2 0x0B short)) (look 2 0 ∷ []) (Appended 2) ∷ entry (Forward 1 (unicast 3 0x0B short)) (look 2 1 ∷ []) (Appended 2)
+    ∷ entry (Forward 1 (unicast 4 0x0B short)) (look 2 0 ∷ []) (Appended 2) ∷ []) → ⊥
 unfolding history_on_literals
 fewer_taken_than_before legal = let found = legal.lawful.1.1.1.1.1.0.found in cc
 
@@ -77,7 +83,8 @@ unfolding history_on_literals
 leaves_with_more legal = let called = legal.lawful.1.1.1.0.called in cc
 
 -- Nobody leaves with fewer taken than a look found.
-leaves_with_fewer : Legal the_hub (abc ++ entry (Forward 1 (unicast 2 0x0B short)) (look 2 0 ∷ []) (Appended 2) ∷ entry (Forward 1 (unicast 3 0x0B short)) (look 2 1 ∷ []) (Appended 2) ∷ entry (Leave 2 0 0) [] (Gone Left 0) ∷ []) → ⊥
+leaves_with_fewer : Legal the_hub (abc ++ entry (Forward 1 (unicast 2 0x0B short)) (look 2 0 ∷ []) (Appended 2) ∷ entry (Forward 1 (unicast 3 0x0B short)) (look 2 1 ∷ []) (Appended 2)
+    ∷ entry (Leave 2 0 0) [] (Gone Left 0) ∷ []) → ⊥
 unfolding history_on_literals
 leaves_with_fewer legal = let called = legal.lawful.1.1.1.1.1.0.called in cc
 
@@ -132,6 +139,7 @@ unfolding history_on_literals
 forwards_behind_the_limit legal = let called = legal.lawful.1.1.0.called in cc
 
 -- Nor is anything counted.
-counts_behind_the_limit : Legal hub_of_two_calls (join peer_a 1 ∷ join peer_b 2 ∷ entry Count [] (Counted (record { joined = 2; replaced = 0; refused = 0; unicasts = 0; broadcasts = 0; appended = 0; dropped = 0; full = 0; missed = 0 })) ∷ []) → ⊥
+counts_behind_the_limit : Legal hub_of_two_calls (join peer_a 1 ∷ join peer_b 2
+    ∷ entry Count [] (Counted (record { joined = 2; replaced = 0; refused = 0; unicasts = 0; broadcasts = 0; appended = 0; dropped = 0; full = 0; missed = 0 })) ∷ []) → ⊥
 unfolding history_on_literals
 counts_behind_the_limit legal = let called = legal.lawful.1.1.0.called in cc

@@ -1,4 +1,5 @@
 -- What the worked histories are made of: peers, hubs, messages and entries.
+-- No clause needs it: worked examples.
 use Rattle.std.proofs.Common.{◌≡◌, ℕ, List, [], ◌∷◌, ◌++◌, map, None, replicate}
 use Rattle.std.specs.Prelude.{IsTrue}
 use Rattle.std.specs.List.{list_all}
@@ -99,5 +100,6 @@ abbrev pub abc : List Entry
 abc = join peer_a 1 ∷ join peer_b 2 ∷ join peer_c 3 ∷ []
 
 -- a lawful entry, from its four reasons
-abbrev pub lawful : {a : About} {m : Moment} → m.entry.reply ≡ reply a m.before m.entry.call m.entry.looks → map (λ k. k.conn) m.entry.looks ≡ looks_at m.before m.entry.call → IsTrue (list_all (λ k. can_find a m.before k.conn k.taken) m.entry.looks) → IsTrue (may_call a m.before m.entry.caller m.entry.call) → Lawful a m
+abbrev pub lawful : {a : About} {m : Moment} → m.entry.reply ≡ reply a m.before m.entry.call m.entry.looks → map (λ k. k.conn) m.entry.looks ≡ looks_at m.before m.entry.call
+    → IsTrue (list_all (λ k. can_find a m.before k.conn k.taken) m.entry.looks) → IsTrue (may_call a m.before m.entry.caller m.entry.call) → Lawful a m
 lawful replied named found called = record { replied = replied; named = named; found = found; called = called }

@@ -1,4 +1,5 @@
 -- Where a unicast is that was told as appended, by a longer history.
+-- It serves the clauses of `unicast_is_there`.
 use Rattle.std.proofs.Common.{◌≡◌, ◌≢◌, ℕ, suc, ◌+◌, ◌==◌, true, false, cond, List, [], ◌∷◌, ◌++◌, length, take, refl, ap, sym, ◌∙◌, subst, arith, append_assoc, append-nil, length-append}
 use Rattle.std.specs.Prelude.{IfOk, Result, Ok, Err}
 use Rattle.std.proofs.lemmas.List.{map-append}
@@ -49,13 +50,17 @@ not_same : (xs : List (List ℕ)) (o : List ℕ) → xs ++ o ∷ [] ≢ xs
 not_same xs o e = (let k = ap length e in let n = length-append xs (o ∷ []) in omega (arith, k, n))
 
 -- A unicast of a legal history that was replied to as appended to c, with the address of its sender.
-there : (a : About) (G : List Entry) (e : Entry) (rest : List Entry) (sender : ℕ) (f : Frame) (c : ℕ) → Legal a (G ++ e ∷ rest) → e.call ≡ Forward sender f.message → e.reply ≡ AppendedReply c → is_broadcast f.message ≡ false → vmac_of G sender ≡ f.sender → IsThereAlone a (G ++ e ∷ rest) (length G) c f
+there : (a : About) (G : List Entry) (e : Entry) (rest : List Entry) (sender : ℕ) (f : Frame) (c : ℕ) → Legal a (G ++ e ∷ rest) → e.call ≡ Forward sender f.message
+    → e.reply ≡ AppendedReply c → is_broadcast f.message ≡ false → vmac_of G sender ≡ f.sender → IsThereAlone a (G ++ e ∷ rest) (length G) c f
 there a G e rest sender f c legal calls says one address =
     let before : Legal a G = Legal-first a G (e ∷ rest) legal in
     let lawful = Legal-at a G rest e legal in
-    let adds : (k : ℕ) → sent a (G ++ e ∷ []) k ≡ sent a G k ++ cond (c == k) (out f.message (vmac_of G sender) ∷ []) [] = λ k. sent-more a G e k ∙ ap (λ (l : List (List ℕ)). sent a G k ++ l) (subst (λ r. added a (moment G e) (sent a G k) k ≡ cond (names k r) (out f.message (vmac_of G sender) ∷ []) []) says (adds_as_named a G before e sender f.message k lawful calls)) in
+    let adds : (k : ℕ) → sent a (G ++ e ∷ []) k ≡ sent a G k ++ cond (c == k) (out f.message (vmac_of G sender) ∷ []) [] = λ k. sent-more a G e k
+    ∙ ap (λ (l : List (List ℕ)). sent a G k ++ l) (subst (λ r. added a (moment G e) (sent a G k) k ≡ cond (names k r) (out f.message (vmac_of G sender) ∷ []) []) says
+    (adds_as_named a G before e sender f.message k lawful calls)) in
     let same : (c == c) ≡ true = eq-eqb c c refl in
-    let joins : sent a (G ++ e ∷ []) c ≡ sent a G c ++ out f.message f.sender ∷ [] = adds c ∙ ap (λ b. sent a G c ++ cond b (out f.message (vmac_of G sender) ∷ []) []) same ∙ ap (λ (v : Vmac). sent a G c ++ out f.message v ∷ []) address in
+    let joins : sent a (G ++ e ∷ []) c ≡ sent a G c ++ out f.message f.sender ∷ [] = adds c ∙ ap (λ b. sent a G c ++ cond b (out f.message (vmac_of G sender) ∷ []) []) same
+    ∙ ap (λ (v : Vmac). sent a G c ++ out f.message v ∷ []) address in
     let changed : sent a (G ++ e ∷ []) c ≢ sent a G c = λ k. not_same (sent a G c) (out f.message f.sender) (sym joins ∙ k) in
     let up = take_one G e rest in
     let front = take_front G (e ∷ rest) in
@@ -63,12 +68,15 @@ there a G e rest sender f c legal calls says one address =
     record {
       held = rw front ((unicast_to_holder_alone a G before e sender f.message c calls one changed).0);
       joins = rw (up, front) joins;
-      alone = λ k other. rw (up, front) (adds k ∙ ap (λ b. sent a G k ++ cond b (out f.message (vmac_of G sender) ∷ []) []) (false_from_ne_true (c == k) (λ is. other (sym (eqb-true c k is)))) ∙ append-nil (sent a G k));
+      alone = λ k other. rw (up, front) (adds k ∙ ap (λ b. sent a G k ++ cond b (out f.message (vmac_of G sender) ∷ []) [])
+          (false_from_ne_true (c == k) (λ is. other (sym (eqb-true c k is)))) ∙ append-nil (sent a G k));
       stays = (later.0, rw up (ap (λ (l : List Entry). sent a l c) (sym (append_assoc G (e ∷ []) rest)) ∙ later.1));
     }
 
 -- What the pass r has seen, which begins with what a unicast left its caller's pass as, says where the unicast is.
-pub told_there : (h : Hub) (p q r : Pass) (conn : ℕ) (f : Frame) (answer : Result (Told OneReply) Worn) → Passed h p [] (one_made (number_of p) conn f.message answer) q → IsCaller h r → StartsWith (seen r) (seen q) → IsOwnAs p conn f.sender → is_broadcast f.message ≡ false → IfOk answer (λ t. (k : Look) → t.said ≡ Appended k → IsThereAlone (about_of h) (entries (seen r)) t.at k.conn f)
+pub told_there : (h : Hub) (p q r : Pass) (conn : ℕ) (f : Frame) (answer : Result (Told OneReply) Worn) → Passed h p [] (one_made (number_of p) conn f.message answer) q → IsCaller h r
+    → StartsWith (seen r) (seen q) → IsOwnAs p conn f.sender → is_broadcast f.message ≡ false
+    → IfOk answer (λ t. (k : Look) → t.said ≡ Appended k → IsThereAlone (about_of h) (entries (seen r)) t.at k.conn f)
 told_there h p q r conn f (Err worn) passed is begins own one = tt
 told_there h p q r conn f (Ok t) passed is begins own one = λ k said.
     let a = about_of h in
@@ -77,7 +85,8 @@ told_there h p q r conn f (Ok t) passed is begins own one = λ k said.
     let G = entries m.before in
     let rest = entries begins.0 in
     let H = G ++ s.entry ∷ rest in
-    let whole : entries (seen r) ≡ H = parts (seen q) (seen r) begins ∙ ap (λ (S : List Stamped). entries S ++ rest) m.ends ∙ ap (λ (l : List Entry). l ++ rest) (map-append (λ (x : Stamped). x.entry) m.before (s ∷ [])) ∙ append_assoc G (s.entry ∷ []) rest in
+    let whole : entries (seen r) ≡ H = parts (seen q) (seen r) begins ∙ ap (λ (S : List Stamped). entries S ++ rest) m.ends
+    ∙ ap (λ (l : List Entry). l ++ rest) (map-append (λ (x : Stamped). x.entry) m.before (s ∷ [])) ∙ append_assoc G (s.entry ∷ []) rest in
     let address : vmac_of G conn ≡ f.sender = address_lifted (seen p) m.before (number_of p) conn m.begins own.0 ∙ own.1 in
     let replied : s.entry.reply ≡ AppendedReply k.conn = ap one_reply said in
     let place : t.at ≡ length G = m.place ∙ sym (length_entries m.before) in

@@ -1,4 +1,5 @@
 -- What a caller knows from what its pass has seen, at the guard and after.
+-- It serves clauses of functions of `hub`, `laws` and `meeting`.
 use Rattle.std.proofs.Common.{◌≡◌, ℕ, true, false, List, [], ◌++◌, length, take, Some, refl, ap, sym, ◌∙◌, subst, append-nil, ◌≤◌, ◌+◌, arith, length-append}
 use Rattle.std.specs.List.{list_any}
 use Rattle.std.proofs.lemmas.List.{map-append}
@@ -39,7 +40,8 @@ longer S T begins =
     omega arith
 
 -- what caller n has by F, it has by H, which begins with F, where none of its entries since is a leave
-pub own_lifted : (a : About) (F H : List Stamped) (n c : ℕ) (own_since : List Entry) → Legal a (entries H) → StartsWith H F → own_of H n ≡ own_of F n ++ own_since → list_any (leaves c) own_since ≡ false → is_of (entries F) n c ≡ true → is_of (entries H) n c ≡ true
+pub own_lifted : (a : About) (F H : List Stamped) (n c : ℕ) (own_since : List Entry) → Legal a (entries H) → StartsWith H F → own_of H n ≡ own_of F n ++ own_since
+    → list_any (leaves c) own_since ≡ false → is_of (entries F) n c ≡ true → is_of (entries H) n c ≡ true
 own_lifted a F H n c own_since legal begins same quiet h =
     let split = parts F H begins in
     subst (λ l. is_of l n c ≡ true) (sym split) (own_lifts a n c (entries F) (entries begins.0) own_since (subst (Legal a) split legal) (ap (λ (l : List Entry). own l n) (sym split) ∙ same) quiet h)
@@ -53,7 +55,8 @@ same_own : (v w : View) → w ≡ having_seen w.seen v → IsConsistent v → Is
 same_own v w e tv tw = ap (λ (x : View). own_of w.seen x.number) (sym e) ∙ tw.0 ∙ ap (λ (x : View). x.own) e ∙ sym tv.0
 
 -- at the guard, whose view is w, the history still has what is the pass's own
-guard_own : (a : About) (p : Pass) (n c : ℕ) (w : View) → Legal a (entries w.seen) → StartsWith w.seen (seen p) → w ≡ having_seen w.seen (view_of p) → IsConsistent w → IsConsistent (view_of p) → (view_of p).number ≡ number_of p → n ≡ number_of p → IsOwn p c → is_of (entries w.seen) n c ≡ true
+guard_own : (a : About) (p : Pass) (n c : ℕ) (w : View) → Legal a (entries w.seen) → StartsWith w.seen (seen p) → w ≡ having_seen w.seen (view_of p) → IsConsistent w
+    → IsConsistent (view_of p) → (view_of p).number ≡ number_of p → n ≡ number_of p → IsOwn p c → is_of (entries w.seen) n c ≡ true
 guard_own a p n c w legal begins same tw tv is num mine =
     let at : n ≡ (view_of p).number = num ∙ sym is in
     own_lifted a (seen p) w.seen n c [] legal begins
@@ -62,11 +65,13 @@ guard_own a p n c w legal begins same tw tv is num mine =
     (ap (λ k. is_of (entries (seen p)) k c) num ∙ mine)
 
 -- so the desk in hand has a row for it
-pub guard_row : (d : Desk) (p : Pass) (n c : ℕ) (w : View) → DeskStands d w.seen → StartsWith w.seen (seen p) → w ≡ having_seen w.seen (view_of p) → IsConsistent w → IsConsistent (view_of p) → (view_of p).number ≡ number_of p → n ≡ number_of p → IsOwn p c → IsRowBy d n c
+pub guard_row : (d : Desk) (p : Pass) (n c : ℕ) (w : View) → DeskStands d w.seen → StartsWith w.seen (seen p) → w ≡ having_seen w.seen (view_of p) → IsConsistent w → IsConsistent (view_of p)
+    → (view_of p).number ≡ number_of p → n ≡ number_of p → IsOwn p c → IsRowBy d n c
 guard_row d p n c w stands begins same tw tv is num mine = is_row_by d w.seen n c stands (guard_own d.about p n c w stands.legal begins same tw tv is num mine)
 
 -- with its address
-pub guard_sender : (d : Desk) (p : Pass) (n c : ℕ) (v : Vmac) (w : View) → DeskStands d w.seen → StartsWith w.seen (seen p) → w ≡ having_seen w.seen (view_of p) → IsConsistent w → IsConsistent (view_of p) → (view_of p).number ≡ number_of p → n ≡ number_of p → IsOwnAs p c v → IsRowOf d n c v
+pub guard_sender : (d : Desk) (p : Pass) (n c : ℕ) (v : Vmac) (w : View) → DeskStands d w.seen → StartsWith w.seen (seen p) → w ≡ having_seen w.seen (view_of p) → IsConsistent w
+    → IsConsistent (view_of p) → (view_of p).number ≡ number_of p → n ≡ number_of p → IsOwnAs p c v → IsRowOf d n c v
 guard_sender d p n c v w stands begins same tw tv is num mine =
     is_row_of d w.seen n c v stands (guard_own d.about p n c w stands.legal begins same tw tv is num mine.0) (address_lifted (seen p) w.seen (number_of p) c begins mine.0 ∙ mine.1)
 

@@ -1,4 +1,5 @@
 -- What a connect that joined gives its caller.
+-- It serves the clauses of `connect`.
 use Rattle.std.proofs.Common.{◌≡◌, ℕ, ◌<◌, ◌+◌, true, false, List, [], ◌∷◌, ◌++◌, length, Some, refl, ap, sym, ◌∙◌, subst, arith}
 use Rattle.std.specs.Prelude.{IfOk, Result, Ok, Err}
 use Rattle.std.specs.List.{list_any}
@@ -30,7 +31,8 @@ use Rattle.bsc_hub.specs.Passing.{IsOwnAs, Passed, about_of}
 use Rattle.bsc_history.proofs.Connections.{new_address}
 
 -- The connection is its caller's own under the address that it asked for, and the history keeps the mark of its outlet.
-owns_joined : (h : Hub) (p q : Pass) (who : Identity) (r : Result Joined ConnectRefusal) → Passed h p [] (connect_made (number_of p) who r) q → IfOk r (λ j. IsOwnAs q j.conn who.vmac × (mark_of (seen q) j.conn ≡ Some (outlet_mark j.outlet)))
+owns_joined : (h : Hub) (p q : Pass) (who : Identity) (r : Result Joined ConnectRefusal) → Passed h p [] (connect_made (number_of p) who r) q
+    → IfOk r (λ j. IsOwnAs q j.conn who.vmac × (mark_of (seen q) j.conn ≡ Some (outlet_mark j.outlet)))
 owns_joined h p q who (Err refusal) passed = tt
 owns_joined h p q who (Ok j) passed =
     let n = number_of p in
@@ -56,6 +58,7 @@ pub joined_owns : (h : Hub) (p q : Pass) (who : Identity) (r : Result Joined Con
 joined_owns h p q who (Err refusal) passed = tt
 joined_owns h p q who (Ok j) passed = (owns_joined h p q who (Ok j) passed).0
 
-pub joined_marked : (h : Hub) (p q : Pass) (who : Identity) (r : Result Joined ConnectRefusal) → Passed h p [] (connect_made (number_of p) who r) q → IfOk r (λ j. mark_of (seen q) j.conn ≡ Some (outlet_mark j.outlet))
+pub joined_marked : (h : Hub) (p q : Pass) (who : Identity) (r : Result Joined ConnectRefusal) → Passed h p [] (connect_made (number_of p) who r) q
+    → IfOk r (λ j. mark_of (seen q) j.conn ≡ Some (outlet_mark j.outlet))
 joined_marked h p q who (Err refusal) passed = tt
 joined_marked h p q who (Ok j) passed = (owns_joined h p q who (Ok j) passed).1

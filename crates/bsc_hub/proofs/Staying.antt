@@ -1,4 +1,5 @@
 -- Which calls leave a caller's connection its own: all but its leave.
+-- It serves bsc_load, bsc_session and test_hub.
 use Rattle.std.proofs.Common.{◌≢◌, ℕ, ◌==◌, List, refl}
 use Rattle.std.specs.Prelude.{Result, Ok, Err}
 use Rattle.std.proofs.lemmas.Bool.{eqb-true, false_from_ne_true}

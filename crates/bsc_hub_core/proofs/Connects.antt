@@ -1,5 +1,7 @@
 -- What a connect leaves of a core.
-use Rattle.std.proofs.Common.{◌≡◌, ◌≢◌, ◌≤◌, ◌<◌, ◌⊎◌, inl, inr, ℕ, ◌==◌, nat_le, Bool, true, false, not, ◌||◌, cond, List, [], ◌∷◌, ◌++◌, length, filter, Option, Some, None, is_some, refl, ap, sym, ◌∙◌, subst, arith, append-nil}
+-- It serves the clauses of `connect`.
+use Rattle.std.proofs.Common.{◌≡◌, ◌≢◌, ◌≤◌, ◌<◌, ◌⊎◌, inl, inr, ℕ, ◌==◌, nat_le, Bool, true, false, not, ◌||◌, cond, List, [], ◌∷◌, ◌++◌, length, filter, Option, Some, None}
+use Rattle.std.proofs.Common.{is_some, refl, ap, sym, ◌∙◌, subst, arith, append-nil}
 use Rattle.std.specs.List.{list_any}
 use Rattle.std.proofs.lemmas.Bool.{both_ways, eqb-true, eq-eqb, false_from_ne_true, or_cases}
 use Rattle.std.proofs.lemmas.List.Folds.{list_any-append}
@@ -66,7 +68,8 @@ quiet t n S caller who m r c p about known h =
       tags = (let none = ap length (adds_none t.desk.about (entries S) caller who r c) in omega (arith, none));
     })
 
-module _ (t u : HubCore) (H : List Entry) (caller : ℕ) (who : Identity) (m : Mark) (s : CoreStands t H) (about : u.about ≡ t.about) (desk_about : u.desk.about ≡ t.desk.about) (known : (c : ℕ) → known_of u.desk c ≡ known_of t.desk c) where
+module _ (t u : HubCore) (H : List Entry) (caller : ℕ) (who : Identity) (m : Mark) (s : CoreStands t H) (about : u.about ≡ t.about) (desk_about : u.desk.about ≡ t.desk.about)
+    (known : (c : ℕ) → known_of u.desk c ≡ known_of t.desk c) where
   due_is : (r : Reply) → Some r ≡ connect_due t.desk.about (entries s.marks) who → (nat_le t.about.limits.calls (length H) ≡ false) × (connect_reply t.about H who ≡ r)
   due_is r due =
       let one : Some r ≡ connect_due t.about H who = due ∙ ap (λ a. connect_due a (entries s.marks) who) s.own ∙ ap (λ F. connect_due t.about F who) s.calls in
@@ -96,7 +99,8 @@ module _ (t u : HubCore) (H : List Entry) (caller : ℕ) (who : Identity) (m : M
         same,
       )
 
-  module _ (c : ℕ) (replaced : Option ℕ) (stands : DeskStands u.desk (s.marks ++ connect_stamped caller who m (JoinedReply c replaced) ∷ [])) (due : Some (JoinedReply c replaced) ≡ connect_due t.desk.about (entries s.marks) who) where
+  module _ (c : ℕ) (replaced : Option ℕ) (stands : DeskStands u.desk (s.marks ++ connect_stamped caller who m (JoinedReply c replaced) ∷ []))
+      (due : Some (JoinedReply c replaced) ≡ connect_due t.desk.about (entries s.marks) who) where
     abbrev e : Entry
     e = connect_entry caller who (JoinedReply c replaced)
 
@@ -123,7 +127,8 @@ module _ (t u : HubCore) (H : List Entry) (caller : ℕ) (who : Identity) (m : M
     unknown =
         let p = λ (y : Connection). y.number == c in
         let any : list_any (λ (r : Row). p (connection r)) t.desk.rows.items ≡ list_any p (unleft F) = any_row p t.desk.rows.items ∙ ap (list_any p) s.desk.unleft_rows in
-        ap known_in (none_of (λ (r : Row). r.connection.number == c) t.desk.rows.items (any ∙ false_from_ne_true (list_any p (unleft F)) (λ un. both_ways (list_any (joins c) F) nobody (unleft_joins F c un))))
+        ap known_in (none_of (λ (r : Row). r.connection.number == c) t.desk.rows.items
+        (any ∙ false_from_ne_true (list_any p (unleft F)) (λ un. both_ways (list_any (joins c) F) nobody (unleft_joins F c un))))
 
     -- it had no outbox
     absent : outbox_at t c ≡ None
@@ -138,7 +143,8 @@ module _ (t u : HubCore) (H : List Entry) (caller : ℕ) (who : Identity) (m : M
 
     sends : sent u.desk.about (entries (s.marks ++ x ∷ [])) c ≡ []
     unfolding added_by
-    sends = ap (λ a. sent a (entries (s.marks ++ x ∷ [])) c) desk_about ∙ ap (λ G. sent t.desk.about G c) more ∙ sent-more t.desk.about F e c ∙ append-nil (sent t.desk.about F c) ∙ fresh_sent t.desk.about F c s.desk.legal far
+    sends = ap (λ a. sent a (entries (s.marks ++ x ∷ [])) c) desk_about ∙ ap (λ G. sent t.desk.about G c) more ∙ sent-more t.desk.about F e c ∙ append-nil (sent t.desk.about F c)
+        ∙ fresh_sent t.desk.about F c s.desk.legal far
 
     looks : looked (entries (s.marks ++ x ∷ [])) c ≡ 0
     looks = ap (λ G. looked G c) more ∙ looked-more F e c ∙ fresh_looked t.desk.about F c s.desk.legal far

@@ -1,4 +1,5 @@
 -- Whether something is due for a connection.
+-- It serves the clauses of `has_due`.
 use Rattle.std.proofs.Common.{◌≡◌, ◌==◌, ◌&&◌, ◌||◌, ℕ, Bool, true, false, not, List, length, drop, Option, Some, is_some, refl, ap, sym, ◌∙◌, arith, length-drop}
 use Rattle.std.proofs.lemmas.Bool.{and_from, eq-eqb}
 use Rattle.std.proofs.lemmas.Option.{same_Some}
@@ -22,8 +23,11 @@ use Rattle.bsc_hub_core.specs.Standing.{CoreStands, HasOutbox, outbox_at}
 pub row_by : (t : HubCore) (H : List Entry) (c : ℕ) → CoreStands t H → HasOutbox t c → (caller : ℕ) × IsRowBy t.desk caller c
 row_by t H c s has =
     let p = found_some (outbox_at t c) has in
-    let r = any_gives (λ (x : Connection). x.number == c) (unleft (entries s.marks)) (s.outboxes c p.0 p.1).unleft in
-    (r.0.caller, is_row_by t.desk s.marks r.0.caller c s.desk (any_In (λ (x : Connection). (x.number == c) && (x.caller == r.0.caller)) r.0 (unleft (entries s.marks)) r.1 (and_from (r.0.number == c) (r.0.caller == r.0.caller) r.2 (eq-eqb r.0.caller r.0.caller refl))))
+    let r = any_gives (λ (x : Connection). x.number == c) (unleft (entries s.marks)) (s.outboxes c p.0 p.1).unleft in (
+      r.0.caller,
+      is_row_by t.desk s.marks r.0.caller c s.desk (any_In (λ (x : Connection). (x.number == c) && (x.caller == r.0.caller)) r.0 (unleft (entries s.marks)) r.1
+          (and_from (r.0.number == c) (r.0.caller == r.0.caller) r.2 (eq-eqb r.0.caller r.0.caller refl))),
+    )
 
 -- by its tags and its End
 pub due_is : (t : HubCore) (H : List Entry) (c : ℕ) (p : Outbox) → CoreStands t H → outbox_at t c ≡ Some p → has_due t H c p ≡ (not (length p.tags.items == 0) || is_some (ended H c))
@@ -37,7 +41,8 @@ due_is t H c p s at =
 -- By whether tags are left, and by the End.
 due_parts : (t : HubCore) (H : List Entry) (c : ℕ) (p q : Outbox) (empty : Bool) → CoreStands t H → outbox_at t c ≡ Some p → outbox_at t c ≡ Some q
     → empty ≡ (length q.tags.items == 0) → has_due t H c p ≡ (not empty || is_some (ended H c))
-due_parts t H c p q empty s at got says = due_is t H c p s at ∙ ap (λ (b : Bool). not b || is_some (ended H c)) (ap (λ (y : Outbox). length y.tags.items == 0) (same_Some p q (sym at ∙ got)) ∙ sym says)
+due_parts t H c p q empty s at got says = due_is t H c p s at ∙ ap (λ (b : Bool). not b || is_some (ended H c))
+    (ap (λ (y : Outbox). length y.tags.items == 0) (same_Some p q (sym at ∙ got)) ∙ sym says)
 
 -- A frame waits.
 pub due_by_tags : (t : HubCore) (H : List Entry) (c : ℕ) (p q : Outbox) (empty : Bool) → CoreStands t H → outbox_at t c ≡ Some p → outbox_at t c ≡ Some q
@@ -47,4 +52,5 @@ due_by_tags t H c p q empty s at got says some = some ∙ sym (due_parts t H c p
 -- None does: it is as the connection has ended.
 pub due_by_end : (t : HubCore) (H : List Entry) (c : ℕ) (p q : Outbox) (empty b : Bool) (ending : Option End) (s : CoreStands t H) → outbox_at t c ≡ Some p → outbox_at t c ≡ Some q
     → empty ≡ (length q.tags.items == 0) → not empty ≡ false → b ≡ is_some ending → ending ≡ ended (entries s.marks) c → b ≡ has_due t H c p
-due_by_end t H c p q empty b ending s at got says none is ends = is ∙ ap is_some (ends ∙ ap (λ F. ended F c) s.calls) ∙ sym (due_parts t H c p q empty s at got says ∙ ap (λ (b : Bool). b || is_some (ended H c)) none)
+due_by_end t H c p q empty b ending s at got says none is ends = is ∙ ap is_some (ends ∙ ap (λ F. ended F c) s.calls)
+    ∙ sym (due_parts t H c p q empty s at got says ∙ ap (λ (b : Bool). b || is_some (ended H c)) none)

@@ -1,4 +1,5 @@
 -- What callers use of a core that stands for a history.
+-- It serves bsc_script and bsc_world.
 use Rattle.std.proofs.Common.{◌≡◌, ◌≤◌, ◌<◌, ◌==◌, ◌^◌, ◌++◌, ◌∷◌, [], inl, inr, ℕ, List, length, map, Some, refl, ap, sym, ◌∙◌, subst, arith, length-append}
 use Rattle.std.proofs.lemmas.Bool.{eq-eqb}
 use Rattle.bsc_history.specs.declared.call.Call.{Call}
@@ -59,4 +60,5 @@ map_In f g (x ∷ xs) same = ap (λ y. y ∷ map f xs) (same x (inl refl)) ∙ a
 pub looks_by : (t : HubCore) (H : List Entry) (call : Call) (f : ℕ → ℕ) → CoreStands t H → ((b : ℕ) → IsUnleft H b → taken_in (outbox_at t b) ≡ f b)
     → looks_of t H call ≡ map (λ b. let k : Look = record { conn = b; taken = f b } in k) (looks_at H call)
 looks_by t H call f s taken = map_In (λ b. let k : Look = record { conn = b; taken = taken_in (outbox_at t b) } in k) (λ b. let k : Look = record { conn = b; taken = f b } in k) (looks_at H call)
-    (λ b m. ap (λ (n : ℕ). let k : Look = record { conn = b; taken = n } in k) (taken b (looks_unleft t.about H call b (core_legal t H s) (any_In (λ (c : ℕ). c == b) b (looks_at H call) m (eq-eqb b b refl)))))
+    (λ b m. ap (λ (n : ℕ). let k : Look = record { conn = b; taken = n } in k)
+    (taken b (looks_unleft t.about H call b (core_legal t H s) (any_In (λ (c : ℕ). c == b) b (looks_at H call) m (eq-eqb b b refl)))))

@@ -1,5 +1,7 @@
 -- What a forward leaves of a core.
-use Rattle.std.proofs.Common.{◌≡◌, ◌≢◌, ◌≤◌, inl, inr, ℕ, ◌+◌, ◌==◌, Bool, true, false, ◌||◌, ◌&&◌, cond, List, [], ◌∷◌, ◌++◌, length, map, Option, Some, None, is_some, refl, ap, sym, ◌∙◌, subst, arith, length-append, append-nil, nat_le}
+-- It serves the clauses of `forward`, `leave` and `meet_at`.
+use Rattle.std.proofs.Common.{◌≡◌, ◌≢◌, ◌≤◌, inl, inr, ℕ, ◌+◌, ◌==◌, Bool, true, false, ◌||◌, ◌&&◌, cond, List, [], ◌∷◌, ◌++◌, length, map, Option, Some, None, is_some, refl, ap}
+use Rattle.std.proofs.Common.{sym, ◌∙◌, subst, arith, length-append, append-nil, nat_le}
 use Rattle.std.specs.List.{list_any, AllByRecursion}
 use Rattle.std.proofs.lemmas.Bool.{and_parts, both_ways, eq-eqb, eqb-true, ne_eqb, or_cases, or_left, or_right}
 use Rattle.std.proofs.lemmas.List.{length-map}
@@ -91,7 +93,8 @@ placed : (b : Bool) (o : List ℕ) (tag : ℕ) → cond b (tag ∷ []) [] ≡ ma
 placed true o tag = refl
 placed false o tag = refl
 
-module _ (t : HubCore) (H : List Entry) (s : CoreStands t H) (e : Entry) (sender : ℕ) (message : List ℕ) (call : e.call ≡ Forward sender message) (lawful : Lawful t.desk.about (moment (entries s.marks) e)) (to : List ℕ) (named : (b : ℕ) → is_among b to ≡ names b e.reply) (tag : ℕ) where
+module _ (t : HubCore) (H : List Entry) (s : CoreStands t H) (e : Entry) (sender : ℕ) (message : List ℕ) (call : e.call ≡ Forward sender message)
+    (lawful : Lawful t.desk.about (moment (entries s.marks) e)) (to : List ℕ) (named : (b : ℕ) → is_among b to ≡ names b e.reply) (tag : ℕ) where
   abbrev F : List Entry
   F = entries s.marks
 
@@ -139,7 +142,8 @@ module _ (t : HubCore) (H : List Entry) (s : CoreStands t H) (e : Entry) (sender
           known = x.known ∙ ap length x.same.1;
           same = (ap outlet_mark m.outlet ∙ x.same.0, same, ap empties_of m.outlet ∙ x.same.2, ap found m.outlet ∙ x.same.3);
           vmac = m.vmac;
-          tags = ap length m.tags ∙ length-append (tags_by p) (gains tag to b) ∙ ap (λ l. length (tags_by p) + length l) (gained b) ∙ ap (λ k. length (tags_by p) + k) (length-map (added t.desk.about (moment F e) (sent t.desk.about F b) b) (λ o. tag));
+          tags = ap length m.tags ∙ length-append (tags_by p) (gains tag to b) ∙ ap (λ l. length (tags_by p) + length l) (gained b)
+              ∙ ap (λ k. length (tags_by p) + k) (length-map (added t.desk.about (moment F e) (sent t.desk.about F b) b) (λ o. tag));
         });
       }
 
@@ -162,7 +166,8 @@ midway_start t u H s e sender m tag to call about own stands learns named same =
   call = call;
   named = named;
   apart = subst (Apart (λ (n : ℕ). n)) (sym lawful.named) (looks_at_apart t.desk.about (entries s.marks) e.call s.desk.legal);
-  has = λ b among. (let un = looks_unleft t.desk.about (entries s.marks) e.call b s.desk.legal (ap (is_among b) (sym lawful.named) ∙ among) in found_some (outbox_at t b) (s.all b (subst (λ F. IsUnleft F b) s.calls un)));
+  has = λ b among. (let un = looks_unleft t.desk.about (entries s.marks) e.call b s.desk.legal (ap (is_among b) (sym lawful.named) ∙ among) in
+      found_some (outbox_at t b) (s.all b (subst (λ F. IsUnleft F b) s.calls un)));
   waits = λ b among. same b;
   met = λ b off. subst (HasMetIf u.desk (s.marks ++ plain e ∷ []) to tag b (outbox_at t b)) (sym (same b)) (one b off (outbox_at t b) refl);
 }
@@ -226,14 +231,25 @@ module _ (t u : HubCore) (H : List Entry) (s : CoreStands t H) (e : Entry) (tag 
 
       again : (b : ℕ) → b ≢ c → (o w : Option Outbox) → HasMetIf u.desk (s.marks ++ plain e ∷ []) to tag b o w → HasMetIf v.desk (s.marks ++ plain e ∷ []) to tag b o w
       again b other None w h = h
-      again b other (Some r) w h = (h.0, h.1, record { taken = h.2.taken; empties = h.2.empties; tags = h.2.tags; kept = outbox_desk u.desk v.desk (s.marks ++ plain e ∷ []) b h.0 m.meets.about (ap known_in (m.meets.others b other)) h.2.kept })
+      again b other (Some r) w h = (
+        h.0,
+        h.1,
+        record {
+          taken = h.2.taken;
+          empties = h.2.empties;
+          tags = h.2.tags;
+          kept = outbox_desk u.desk v.desk (s.marks ++ plain e ∷ []) b h.0 m.meets.about (ap known_in (m.meets.others b other)) h.2.kept;
+        },
+      )
 
       by : (b : ℕ) → is_among b left ≡ false → (f : Bool) → (b == c) ≡ f → HasMetIf v.desk (s.marks ++ plain e ∷ []) to tag b (outbox_at t b) (outbox_at v b)
       by b off true f =
           let same = eqb-true b c f in
           let was : outbox_at t c ≡ Some p = sym (g.waits c among_c) ∙ at in
-          let here : HasMetIf v.desk (s.marks ++ plain e ∷ []) to tag c (Some p) (outbox_at v c) = (q, now, looked_at t H s e g.sender g.message g.call (lawful_in t u H s e tag to (c ∷ left) g) to g.named tag u.desk v.desk c p q g.own g.desk (kept_next p at) m) in
-          subst (λ n. HasMetIf v.desk (s.marks ++ plain e ∷ []) to tag n (outbox_at t n) (outbox_at v n)) (sym same) (subst (λ o. HasMetIf v.desk (s.marks ++ plain e ∷ []) to tag c o (outbox_at v c)) (sym was) here)
+          let here : HasMetIf v.desk (s.marks ++ plain e ∷ []) to tag c (Some p) (outbox_at v c) =
+          (q, now, looked_at t H s e g.sender g.message g.call (lawful_in t u H s e tag to (c ∷ left) g) to g.named tag u.desk v.desk c p q g.own g.desk (kept_next p at) m) in
+          subst (λ n. HasMetIf v.desk (s.marks ++ plain e ∷ []) to tag n (outbox_at t n) (outbox_at v n)) (sym same)
+          (subst (λ o. HasMetIf v.desk (s.marks ++ plain e ∷ []) to tag c o (outbox_at v c)) (sym was) here)
       by b off false f =
           let other : b ≢ c = λ same. both_ways (b == c) f (ap (λ n. n == c) same ∙ eq_self c) in
           let more : is_among b (c ∷ left) ≡ false = ap (λ (y : Bool). y || is_among b left) (ne_eqb c b (λ same. other (sym same))) ∙ off in
@@ -262,7 +278,8 @@ module _ (t u : HubCore) (H : List Entry) (s : CoreStands t H) (caller c : ℕ) 
         all = λ b un. has b (outbox_at t b) (outbox_at u b) (s.all b (sym (ap (list_any (λ (y : Connection). y.number == b)) (unleft-same H e refl (λ k. refl))) ∙ un)) (g.met b refl);
       });
     };
-    gains = λ b. subst (λ (ls : List Look). GainsIf tag (added t.about (moment H (forward_entry caller c m ls r)) (sent t.about H b) b) (outbox_at t b) (outbox_at u b)) exact (gain b (outbox_at t b) (outbox_at u b) (g.met b refl));
+    gains = λ b. subst (λ (ls : List Look). GainsIf tag (added t.about (moment H (forward_entry caller c m ls r)) (sent t.about H b) b) (outbox_at t b) (outbox_at u b)) exact
+        (gain b (outbox_at t b) (outbox_at u b) (g.met b refl));
   }
     where
       lawful : Lawful t.desk.about (moment (entries s.marks) e)
@@ -284,7 +301,9 @@ module _ (t u : HubCore) (H : List Entry) (s : CoreStands t H) (caller c : ℕ) 
         record {
           taken = h.2.taken;
           empties = h.2.empties;
-          tags = h.2.tags ∙ ap (λ l. tags_by p ++ l) (gained t H s e c m refl lawful to g.named tag b ∙ ap (λ a. map (λ o. tag) (added a (moment (entries s.marks) e) (sent a (entries s.marks) b) b)) s.own ∙ ap (λ G. map (λ o. tag) (added t.about (moment G e) (sent t.about G b) b)) s.calls);
+          tags = h.2.tags ∙ ap (λ l. tags_by p ++ l) (gained t H s e c m refl lawful to g.named tag b
+              ∙ ap (λ a. map (λ o. tag) (added a (moment (entries s.marks) e) (sent a (entries s.marks) b) b)) s.own
+              ∙ ap (λ G. map (λ o. tag) (added t.about (moment G e) (sent t.about G b) b)) s.calls);
         },
       )
 
@@ -294,10 +313,12 @@ module _ (t u : HubCore) (H : List Entry) (s : CoreStands t H) (caller c : ℕ) 
           let un = looks_unleft t.desk.about (entries s.marks) (Forward c m) b s.desk.legal (ap (is_among b) (sym lawful.named) ∙ among_In looks k mem) in
           let p = found_some (outbox_at t b) (s.all b (subst (λ F. IsUnleft F b) s.calls un)) in
           let old = s.outboxes b p.0 p.1 in
-          let met : HasMetIf u.desk (s.marks ++ plain e ∷ []) to tag b (Some p.0) (outbox_at u b) = subst (λ o. HasMetIf u.desk (s.marks ++ plain e ∷ []) to tag b o (outbox_at u b)) p.1 (g.met b refl) in
+          let met : HasMetIf u.desk (s.marks ++ plain e ∷ []) to tag b (Some p.0) (outbox_at u b) =
+          subst (λ o. HasMetIf u.desk (s.marks ++ plain e ∷ []) to tag b o (outbox_at u b)) p.1 (g.met b refl) in
           let least : known_of t.desk b ≤ k.taken = In_from_all (λ (z : Look). known_of t.desk z.conn ≤ z.taken) k looks at_least mem in
           let newest : looked (entries s.marks ++ e ∷ []) b ≡ k.taken = look_newest t.desk.about (entries s.marks) e k s.desk.legal lawful mem in
-          let behind : looked (entries s.marks ++ e ∷ []) b ≤ length (given met.0.outlet) = subst (λ G. looked G b ≤ length (given met.0.outlet)) (entries-more s.marks (plain e)) met.2.kept.outlet.behind in
+          let behind : looked (entries s.marks ++ e ∷ []) b ≤ length (given met.0.outlet) =
+          subst (λ G. looked G b ≤ length (given met.0.outlet)) (entries-more s.marks (plain e)) met.2.kept.outlet.behind in
           let same = ap length met.2.taken in
           let know = old.known in
           let exact : k.taken ≡ length (given p.0.outlet) = omega (arith, least, newest, behind, same, know) in

@@ -1,4 +1,5 @@
 -- What a leave leaves of a core, and a stop and a count.
+-- It serves the clauses of `count`, `leave` and `stop`.
 use Rattle.std.proofs.Common.{◌≡◌, ◌≢◌, ◌≤◌, ℕ, ◌==◌, true, false, not, List, [], ◌∷◌, ◌++◌, length, filter, Some, None, Ok, is_some, refl, ap, sym, ◌∙◌, subst, arith, append-nil}
 use Rattle.std.specs.List.{list_any}
 use Rattle.std.proofs.lemmas.Bool.{both_ways, eq-eqb, eqb-true, false_from_ne_true, ne_eqb}
@@ -99,7 +100,8 @@ module _ (t u : HubCore) (H : List Entry) (caller c : ℕ) (p : Outbox) (gone : 
 
 -- ---- stops and counts
 
-module _ (t u : HubCore) (H : List Entry) (s : CoreStands t H) (about : u.about ≡ t.about) (own : u.desk.about ≡ t.desk.about) (known : (b : ℕ) → known_of u.desk b ≡ known_of t.desk b) (same : (b : ℕ) → outbox_at u b ≡ outbox_at t b) where
+module _ (t u : HubCore) (H : List Entry) (s : CoreStands t H) (about : u.about ≡ t.about) (own : u.desk.about ≡ t.desk.about) (known : (b : ℕ) → known_of u.desk b ≡ known_of t.desk b)
+    (same : (b : ℕ) → outbox_at u b ≡ outbox_at t b) where
   plainly : (e : Entry) → DeskStands u.desk (s.marks ++ plain e ∷ []) → ((b : ℕ) → leaves b e ≡ false) → connection_of e ≡ None → e.looks ≡ []
       → ((b : ℕ) → added t.desk.about (moment (entries s.marks) e) (sent t.desk.about (entries s.marks) b) b ≡ []) → Plainly H e t u
   plainly e stands stays none looks adds = record {
@@ -118,7 +120,11 @@ module _ (t u : HubCore) (H : List Entry) (s : CoreStands t H) (about : u.about 
   pub stopped_as : (caller : ℕ) (k : Counts) → k ≡ counts (entries s.marks) → (is_stopped (entries s.marks) ≡ true → ⊥)
       → DeskStands u.desk (s.marks ++ plain (stop_entry caller k) ∷ []) → StopsAs H caller (Ok k) t u
   unfolding added_by
-  stopped_as caller k due goes_on stands = (ap is_stopped (sym s.calls) ∙ false_from_ne_true (is_stopped (entries s.marks)) goes_on, due ∙ ap counts s.calls, plainly (stop_entry caller k) stands (λ b. refl) refl refl (λ b. refl))
+  stopped_as caller k due goes_on stands = (
+    ap is_stopped (sym s.calls) ∙ false_from_ne_true (is_stopped (entries s.marks)) goes_on,
+    due ∙ ap counts s.calls,
+    plainly (stop_entry caller k) stands (λ b. refl) refl refl (λ b. refl),
+  )
 
   pub counted_as : (caller : ℕ) (k : Counts) → k ≡ counts (entries s.marks) → (t.desk.about.limits.calls ≤ length s.marks → ⊥)
       → DeskStands u.desk (s.marks ++ plain (count_entry caller k) ∷ []) → CountsAs H caller (Ok k) t u

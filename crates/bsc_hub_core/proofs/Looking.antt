@@ -1,5 +1,7 @@
 -- The looks of a forward: they are apart, each finds the newest number, and whom none names gains nothing.
-use Rattle.std.proofs.Common.{◌≡◌, ◌≢◌, inl, inr, ℕ, ◌==◌, Bool, true, false, not, ◌&&◌, ◌||◌, cond, List, [], ◌∷◌, ◌++◌, map, filter, fold, Option, Some, None, is_none, is_some, refl, ap, sym, ◌∙◌, subst}
+-- It serves the clauses of `forward`, `leave` and `meet_at`.
+use Rattle.std.proofs.Common.{◌≡◌, ◌≢◌, inl, inr, ℕ, ◌==◌, Bool, true, false, not, ◌&&◌, ◌||◌, cond, List, [], ◌∷◌, ◌++◌, map, filter, fold, Option, Some, None, is_none, is_some}
+use Rattle.std.proofs.Common.{refl, ap, sym, ◌∙◌, subst}
 use Rattle.std.specs.List.{list_any, AllByRecursion}
 use Rattle.std.proofs.lemmas.Bool.{and_from, and_parts, and_right, both_ways, eq-eqb, false_from_ne_true, or_left, or_right}
 use Rattle.bsc_history.specs.declared.limits.About.{About}
@@ -59,7 +61,9 @@ apart_of_mapped {A} {B} f (x ∷ xs) h = (all_of_mapped f (λ (y : B). f x ≢ y
 pub looks_at_apart : (a : About) (H : List Entry) (call : Call) → Legal a H → Apart (λ (c : ℕ). c) (looks_at H call)
 looks_at_apart a H (Forward sender m) legal =
     let xs = filter (λ (c : Connection). not (is_too_long (out_of H sender m) c)) (meant H sender m) in
-    let some : Apart (λ (c : ℕ). c) (numbers xs) = apart_mapped (λ (c : Connection). c.number) xs (Apart-filter (λ (c : Connection). c.number) (λ c. not (is_too_long (out_of H sender m) c)) (meant H sender m) (Apart-filter (λ (c : Connection). c.number) (means m sender) (live H) (live_numbers a H legal))) in
+    let some : Apart (λ (c : ℕ). c) (numbers xs) = apart_mapped (λ (c : Connection). c.number) xs
+    (Apart-filter (λ (c : Connection). c.number) (λ c. not (is_too_long (out_of H sender m) c)) (meant H sender m)
+    (Apart-filter (λ (c : Connection). c.number) (means m sender) (live H) (live_numbers a H legal))) in
     elim (is_stopped H || not (is_none (ended H sender))) as (λ b. Apart (λ (c : ℕ). c) (cond b [] (numbers xs))) [ true ↦ tt | false ↦ some ]
 looks_at_apart a H (Connect who) legal = tt
 looks_at_apart a H (Leave conn taken empties) legal = tt
@@ -108,11 +112,14 @@ unlooked_added a H e sender m c legal lawful is off =
     let two = and_parts (r.0.number == c) (not (is_too_long o r.0 || is_found_full a (sent a H c) e.looks c)) r.2 in
     let fit : fits o c r.0 ≡ true = and_from (r.0.number == c) (q r.0) two.0 (not_or (is_too_long o r.0) (is_found_full a (sent a H c) e.looks c) two.1) in
     both_ways (is_among c ks) no (among_filter c q (fits o c) (λ x. refl) xs ∙ any_In (fits o c) r.0 xs r.1 fit)))) in
-    let by : (s : Bool) (w : Option End) → is_stopped H ≡ s → ended H sender ≡ w → is_among c (cond (s || not (is_none w)) [] ks) ≡ false → (is_live H sender && list_any T xs) ≡ false = λ s w. elim s as (λ s. is_stopped H ≡ s → ended H sender ≡ w → is_among c (cond (s || not (is_none w)) [] ks) ≡ false → (is_live H sender && list_any T xs) ≡ false) [
+    let by : (s : Bool) (w : Option End) → is_stopped H ≡ s → ended H sender ≡ w → is_among c (cond (s || not (is_none w)) [] ks) ≡ false
+    → (is_live H sender && list_any T xs) ≡ false = λ s w. elim s as (λ s. is_stopped H ≡ s → ended H sender ≡ w → is_among c (cond (s || not (is_none w)) [] ks) ≡ false
+    → (is_live H sender && list_any T xs) ≡ false) [
       | true ↦ λ stopped ends no. dead (ap (λ (l : List Connection). is_some (numbered sender l)) (none_live a H legal stopped))
       | false ↦ elim w as (λ w. is_stopped H ≡ false → ended H sender ≡ w → is_among c (cond (not (is_none w)) [] ks) ≡ false → (is_live H sender && list_any T xs) ≡ false) [
         | None ↦ λ open_hub ends no. untaken no
-        | Some k ↦ λ open_hub ends no. dead (live_until_ended a H legal sender ∙ ap (λ (w : Option End). list_any (joins sender) H && is_none w) ends ∙ and_right (list_any (joins sender) H) false refl)
+        | Some k ↦ λ open_hub ends no. dead (live_until_ended a H legal sender ∙ ap (λ (w : Option End). list_any (joins sender) H && is_none w) ends
+            ∙ and_right (list_any (joins sender) H) false refl)
       ]
     ] in
     ap (λ (call : Call). added_by a H (sent a H c) c call e.looks) is ∙ ap (λ (b : Bool). cond b (o ∷ []) []) (by (is_stopped H) (ended H sender) refl refl there)

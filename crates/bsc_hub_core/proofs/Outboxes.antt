@@ -1,5 +1,7 @@
 -- The outboxes of a core: one in place of another, another desk, an entry more.
-use Rattle.std.proofs.Common.{◌≡◌, ◌≢◌, ◌≤◌, ℕ, ◌+◌, ◌==◌, nat_lt, Bool, true, false, not, cond, List, [], ◌∷◌, ◌++◌, length, filter, Some, None, is_some, option_to_list, refl, ap, sym, ◌∙◌, subst, arith, length-append, append_assoc}
+-- It serves clauses of functions of `hub_core` and `taking`.
+use Rattle.std.proofs.Common.{◌≡◌, ◌≢◌, ◌≤◌, ℕ, ◌+◌, ◌==◌, nat_lt, Bool, true, false, not, cond, List, [], ◌∷◌, ◌++◌, length, filter, Some, None, is_some, option_to_list, refl, ap}
+use Rattle.std.proofs.Common.{sym, ◌∙◌, subst, arith, length-append, append_assoc}
 use lib.ListN.{get_elem?}
 use Rattle.std.specs.List.{list_any}
 use Rattle.std.specs.Option.{option_or}
@@ -123,7 +125,8 @@ outbox_more d n S x c i j about p q =
       outlet = record {
         begins = (rest ++ enters, sends ∙ ap (λ l. l ++ enters) p.outlet.begins.1 ∙ append_assoc (given i.outlet) rest enters ∙ ap (λ l. l ++ (rest ++ enters)) (sym q.same.1));
         behind = subst (λ l. looked (entries (S ++ x ∷ [])) c ≤ length l) (sym q.same.1) (subst (λ F. looked F c ≤ length (given i.outlet)) (sym more) q.behind);
-        ends = λ k f. ap (λ F. ended F c) more ∙ ended-more H e c ∙ ap (λ o. option_or o (cond (list_any (joins c) H) (end_by c e) None)) (p.outlet.ends k (f.0, ap (λ l. get_elem? l f.0) (sym q.same.3) ∙ f.1));
+        ends = λ k f. ap (λ F. ended F c) more ∙ ended-more H e c ∙ ap (λ o. option_or o (cond (list_any (joins c) H) (end_by c e) None))
+            (p.outlet.ends k (f.0, ap (λ l. get_elem? l f.0) (sym q.same.3) ∙ f.1));
       };
       known = q.known ∙ ap length (sym q.same.1);
       waits = (let gained = q.tags in let was = p.waits in let kept = ap length q.same.1 in omega (arith, gained, was, kept, long));

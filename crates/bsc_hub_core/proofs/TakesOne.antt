@@ -1,4 +1,5 @@
 -- A take from an outbox: what its outlet gave, and what the desk knows of it.
+-- It serves clauses of functions of `hub_core` and `taking`.
 use Rattle.std.proofs.Common.{◌≡◌, ◌≢◌, List, [], ◌∷◌, ℕ, length, Option, Some, None, ap, sym, ◌∙◌, subst}
 use Rattle.bsc_history.specs.declared.ending.End.{End}
 use Rattle.bsc_history.specs.declared.ending.End.TheVariants.{Left}
@@ -62,6 +63,7 @@ module _ (S : List Stamped) (c : ℕ) (d n : Desk) (i j : Outbox) (w : OwnsOutle
     pub took_closed : (ending : End) → Took j.outlet (Closed ending) p → TookNone S c (Some ending) d r i k
     took_closed ending g =
         let at = length (found j.outlet) in
-        let there : get_elem? (found k.outlet) at ≡ some (Ending (Some ending)) = ap (λ l. get_elem? l at) (again.same.3 ∙ g.0.3.0) ∙ at_end (found j.outlet) (Tail (length (given j.outlet)) ∷ []) (Ending (Some ending)) in
+        let there : get_elem? (found k.outlet) at ≡ some (Ending (Some ending)) = ap (λ l. get_elem? l at) (again.same.3 ∙ g.0.3.0)
+        ∙ at_end (found j.outlet) (Tail (length (given j.outlet)) ∷ []) (Ending (Some ending)) in
         let ends : Some ending ≡ ended (entries S) c = sym ((again.outlet S (m.stands S w.stands)).ends ending (at, there)) in
         took_none (Some ending) g.0 ends (λ q. g.1 (let z : ending ≡ Left = cc in z)) g.2

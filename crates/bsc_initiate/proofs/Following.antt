@@ -1,4 +1,5 @@
 -- What is kept goes on standing for what was told.
+-- It serves clauses of functions of `initiating`.
 use Rattle.std.proofs.Common.{◌≡◌, ℕ, Bool, true, false, cond, not, ◌==◌, ◌&&◌, ◌||◌, List, [], ◌∷◌, ◌++◌, Option, Some, None, unwrap_or, refl, ap, sym, ◌∙◌}
 use Rattle.arrayvec.specs.ArrayVec.{ArrayVec}
 use Rattle.bsc_octets.specs.declared.identity.Identity.{Identity}

@@ -1,12 +1,14 @@
 -- What looking back finds in a list of events with one event more.
+-- It serves clauses of functions of `initiating` and `laws`.
 use Rattle.std.proofs.Common.{◌≡◌, ℕ, Bool, true, false, cond, List, [], ◌∷◌, ◌++◌, reverse, Option, Some, None, unwrap_or, refl, ap, ◌∙◌}
 use Rattle.std.specs.Option.{option_or}
 use Rattle.std.proofs.lemmas.List.{reverse-append, reverse-reverse}
-use Rattle.bsc_accept.specs.declared.farewell.Farewell.{Farewell}
+use Rattle.bsc_accept.specs.declared.pending_disconnect.PendingDisconnect.{PendingDisconnect}
 use Rattle.bsc_accept.specs.declared.start.Start.{Start}
 use Rattle.bsc_initiate.specs.declared.event.InitEvent.{InitEvent}
 use Rattle.bsc_initiate.specs.declared.event.InitEvent.TheVariants.{Opened, Message as Came, Finish, Tick}
-use Rattle.bsc_initiate.specs.Past.{awaiting_websocket, oldest, newest, request_at, is_accepted_at, farewell_at, message_time, last_message, has_late_tick, heartbeat_was_put, until_farewell, since_request, request_or_not, standing}
+use Rattle.bsc_initiate.specs.Past.{awaiting_websocket, oldest, newest, request_at, is_accepted_at, farewell_at, message_time, last_message, has_late_tick, heartbeat_was_put}
+use Rattle.bsc_initiate.specs.Past.{until_farewell, since_request, request_or_not, standing}
 use Rattle.bsc_initiate.specs.Kept.{moved, until_request, put_after}
 use Rattle.bsc_initiate.specs.Steps.{step, closes}
 use Rattle.bsc_initiate.specs.Standing.{has_closed, at_newest}
@@ -21,7 +23,7 @@ newest-more f E e = ap (λ ys. oldest f ys) (reverse-append E (e ∷ []))
 
 -- ---- the standing
 
-parting : (o : Option Farewell) (e : InitEvent) → until_farewell (option_or o (farewell_at e)) ≡ moved (until_farewell o) e
+parting : (o : Option PendingDisconnect) (e : InitEvent) → until_farewell (option_or o (farewell_at e)) ≡ moved (until_farewell o) e
 parting None e = refl
 parting (Some f) e = refl
 

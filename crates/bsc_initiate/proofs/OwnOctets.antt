@@ -1,4 +1,5 @@
 -- What an initiating machine puts of itself is no Encapsulated-NPDU.
+-- It serves bsc_node.
 use Rattle.std.proofs.Common.{◌≡◌, ℕ, ◌==◌, Bool, true, false, not, ◌&&◌, cond, List, Option, Some, None, refl, sym, subst}
 use Rattle.std.specs.Prelude.{⊤}
 use Rattle.bsc_octets.specs.declared.identity.Identity.{Identity}

@@ -5,7 +5,7 @@ use Rattle.bsc_checks.specs.declared.verdict.Verdict.TheVariants.{Pass}
 use Rattle.bsc_checks.specs.declared.phase.Phase.{Phase}
 use Rattle.bsc_checks.specs.declared.phase.Phase.TheVariants.{AwaitingAccept, Connected, Disconnecting}
 use Rattle.bsc_accept.specs.declared.start.Start.{Start}
-use Rattle.bsc_accept.specs.declared.farewell.Farewell.{Farewell}
+use Rattle.bsc_accept.specs.declared.pending_disconnect.PendingDisconnect.{PendingDisconnect}
 use Rattle.bsc_accept.specs.Waits.{◌≥◌}
 use Rattle.bsc_initiate.specs.declared.event.InitEvent.{InitEvent}
 use Rattle.bsc_initiate.specs.declared.event.InitEvent.TheVariants.{Opened, Message as Came, Finish, Tick}
@@ -44,7 +44,7 @@ is_message (Came now verdict) = true
 is_message e = false
 
 -- the Disconnect-Request that goes out at an event
-abbrev pub farewell_at : InitEvent → Option Farewell
+abbrev pub farewell_at : InitEvent → Option PendingDisconnect
 farewell_at (Finish now id) = Some (record { since = now; id = id })
 farewell_at e = None
 
@@ -82,9 +82,9 @@ pub data Standing : Type 0 where
   -- with the Message ID of the Connect-Request
   awaiting_accept : ℕ → Standing
   connected : Standing
-  disconnecting : Farewell → Standing
+  disconnecting : PendingDisconnect → Standing
 
-abbrev pub until_farewell : Option Farewell → Standing
+abbrev pub until_farewell : Option PendingDisconnect → Standing
 until_farewell None = connected
 until_farewell (Some f) = disconnecting f
 

@@ -6,7 +6,7 @@ ghost use Rattle.bsc_checks.specs.declared.verdict.Verdict.{Verdict};
 ghost use Rattle.bsc_frame.specs.Payloads.{IsNode};
 ghost use Rattle.bsc_frame.specs.Spelling.{HasSpelling};
 ghost use Rattle.bsc_accept.specs.declared.start.Start.{Start};
-ghost use Rattle.bsc_accept.specs.declared.farewell.Farewell.{Farewell};
+ghost use Rattle.bsc_accept.specs.declared.pending_disconnect.PendingDisconnect.{PendingDisconnect};
 ghost use Rattle.bsc_accept.specs.Messages.{octets_of, disconnect_request, disconnect_ack, heartbeat_ack};
 ghost use Rattle.bsc_initiate.specs.declared.event.InitEvent.{InitEvent};
 ghost use Rattle.bsc_initiate.specs.declared.step.InitStep.{InitStep};
@@ -33,7 +33,7 @@ pub fn ticks_close()
         → (closes (step s E (InitEvent.Tick now id)) ≡ true) ↔ (s.times.connect_wait ≤ now - s.at) }
     ensures idle { (s : Start) (E : List InitEvent) (now id : ℕ) → standing E ≡ connected
         → (closes (step s E (InitEvent.Tick now id)) ≡ true) ↔ (2 * s.times.heartbeat ≤ now - last_message s E) }
-    ensures disconnect_wait { (s : Start) (E : List InitEvent) (f : Farewell) (now id : ℕ)
+    ensures disconnect_wait { (s : Start) (E : List InitEvent) (f : PendingDisconnect) (now id : ℕ)
         → standing E ≡ disconnecting f
         → (closes (step s E (InitEvent.Tick now id)) ≡ true) ↔ (s.times.disconnect_wait ≤ now - f.since) }
 {}

@@ -10,7 +10,7 @@ use crate::initiating::Initiating;
 use crate::requests::heartbeat_request;
 use crate::stage::Stage;
 use crate::step::InitStep;
-use bsc_accept::{Closing, Farewell, disconnect_request, is_over, twice};
+use bsc_accept::{Closing, PendingDisconnect, disconnect_request, is_over, twice};
 
 impl Initiating {
     /// It closes, where a wait is over.
@@ -56,7 +56,7 @@ impl Initiating {
         ensures step { result ≡ InitStep.Put (octets_of (disconnect_request id)) }
         ensures waits { self.new ≡ record self.old { stage = Stage.Disconnecting (record { since = now; id = id }) } }
     {
-        self.stage = Stage::Disconnecting(Farewell { since: now, id });
+        self.stage = Stage::Disconnecting(PendingDisconnect { since: now, id });
         InitStep::Put(disconnect_request(id))
     }
 

@@ -9,7 +9,7 @@ ghost use Rattle.bsc_initiate.specs.Kept.{standing_at, after};
 use crate::initiating::Initiating;
 use crate::stage::Stage;
 use crate::step::InitStep;
-use bsc_accept::{Closing, Farewell, disconnect_ack, heartbeat_ack, is_farewell_answer};
+use bsc_accept::{Closing, PendingDisconnect, disconnect_ack, heartbeat_ack, is_farewell_answer};
 use bsc_checks::Message;
 use bsc_frame::{Answer, Body};
 use bsc_octets::function;
@@ -96,7 +96,7 @@ impl Initiating {
     }
 
     /// A message passed while the answer to a Disconnect-Request is awaited.
-    fn answered(&mut self, farewell: Farewell, message: &Message) -> InitStep
+    fn answered(&mut self, farewell: PendingDisconnect, message: &Message) -> InitStep
         ensures step { result ≡ passed_step (disconnecting farewell) message.now }
         ensures stage { self.new ≡ record self.old { stage = after self.old.stage result } }
     {

@@ -1,5 +1,5 @@
 //! What a machine remembers of its events.
-use bsc_accept::Farewell;
+use bsc_accept::PendingDisconnect;
 
 /// What a machine waits for, with what it has to remember for that.
 #[derive(Clone, Copy, Debug, PartialEq, Eq)]
@@ -11,7 +11,7 @@ pub(crate) enum Stage {
     /// For messages; `put` where it put a Heartbeat-Request since the last one.
     Connected { put: bool },
     /// For the answer to a Disconnect-Request.
-    Disconnecting(Farewell),
+    Disconnecting(PendingDisconnect),
     /// For nothing: it closed.
     Idle,
 }

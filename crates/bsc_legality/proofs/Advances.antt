@@ -1,5 +1,7 @@
 -- A state that becomes another by a lawful entry stands for the history with that entry.
-use Rattle.std.proofs.Common.{◌≡◌, ℕ, ◌+◌, ◌<◌, Bool, true, false, not, ◌||◌, cond, List, [], ◌∷◌, ◌++◌, length, map, filter, fold, Option, Some, None, option_to_list, nat_le, refl, ap, sym, ◌∙◌, subst, arith, length-append}
+-- It serves the clauses of `entry` and `make`.
+use Rattle.std.proofs.Common.{◌≡◌, ℕ, ◌+◌, ◌<◌, Bool, true, false, not, ◌||◌, cond, List, [], ◌∷◌, ◌++◌, length, map, filter, fold, Option, Some, None, option_to_list, nat_le}
+use Rattle.std.proofs.Common.{refl, ap, sym, ◌∙◌, subst, arith, length-append}
 use Rattle.std.specs.List.{list_any, AllByRecursion}
 use Rattle.std.specs.Option.{option_or}
 use Rattle.std.proofs.lemmas.List.{map-append}
@@ -52,9 +54,11 @@ connect_names a H c who =
     let joins_or = λ (b : Bool). cond b (Refused (TableFull a.limits.rows)) (Joined (1 + length (joined H)) (number_of (of_device H who.device))) in
     let last : (b : Bool) → names c (joins_or b) ≡ false = λ b. elim b as (λ b. names c (joins_or b) ≡ false) [ true ↦ refl | false ↦ refl ] in
     let held = held_names c (rival who (holder H who.vmac)) (joins_or (nat_le a.limits.rows (length (unleft H)))) (last (nat_le a.limits.rows (length (unleft H)))) in
-    elim (is_stopped H) as (λ b. names c (cond b (Refused RefusedStopped) (cond (same_vmac who.vmac a.hub.vmac) (Refused (Duplicate None)) (refused_as_held (rival who (holder H who.vmac)) (joins_or (nat_le a.limits.rows (length (unleft H))))))) ≡ false) [
+    elim (is_stopped H) as (λ b. names c (cond b (Refused RefusedStopped) (cond (same_vmac who.vmac a.hub.vmac) (Refused (Duplicate None))
+    (refused_as_held (rival who (holder H who.vmac)) (joins_or (nat_le a.limits.rows (length (unleft H))))))) ≡ false) [
       | true ↦ refl
-      | false ↦ elim (same_vmac who.vmac a.hub.vmac) as (λ b. names c (cond b (Refused (Duplicate None)) (refused_as_held (rival who (holder H who.vmac)) (joins_or (nat_le a.limits.rows (length (unleft H)))))) ≡ false) [ true ↦ refl | false ↦ held ]
+      | false ↦ elim (same_vmac who.vmac a.hub.vmac) as (λ b. names c (cond b (Refused (Duplicate None))
+          (refused_as_held (rival who (holder H who.vmac)) (joins_or (nat_le a.limits.rows (length (unleft H)))))) ≡ false) [ true ↦ refl | false ↦ held ]
     ]
 
 -- a reply by which a connection joined names nobody as appended to
@@ -68,7 +72,8 @@ one_long : (b : Bool) (o : List ℕ) → length (cond b (o ∷ []) []) ≡ one_i
 one_long true o = refl
 one_long false o = refl
 
-gains_as_named : (a : About) (H : List Entry) (e : Entry) (c : ℕ) → Legal a H → Lawful a (moment H e) → (call : Call) → e.call ≡ call → length (added a (moment H e) (sent a H c) c) ≡ one_if (names c e.reply)
+gains_as_named : (a : About) (H : List Entry) (e : Entry) (c : ℕ) → Legal a H → Lawful a (moment H e) → (call : Call) → e.call ≡ call
+    → length (added a (moment H e) (sent a H c) c) ≡ one_if (names c e.reply)
 unfolding added_by
 gains_as_named a H e c legal lawful (Connect who) is =
     ap (λ (k : Call). length (added_by a H (sent a H c) c k e.looks)) is
@@ -87,21 +92,26 @@ gains_as_named a H e c legal lawful Count is =
 -- rows
 
 -- the row of a connection that joined before
-row_more : (a : About) (H : List Entry) (e : Entry) (r : Row) → Legal a H → Lawful a (moment H e) → list_any (joins r.connection.number) H ≡ true → IsRowOf a H r → IsRowOf a (H ++ e ∷ []) (row_after e r)
+row_more : (a : About) (H : List Entry) (e : Entry) (r : Row) → Legal a H → Lawful a (moment H e) → list_any (joins r.connection.number) H ≡ true → IsRowOf a H r
+    → IsRowOf a (H ++ e ∷ []) (row_after e r)
 row_more a H e r legal lawful came is =
     let c = r.connection.number in
     record {
       ends = ap (λ (w : Option End). option_or w (end_by c e)) is.ends ∙ sym (ended-more H e c ∙ ap (λ (b : Bool). option_or (ended H c) (cond b (end_by c e) None)) came);
-      frames = ap (λ (n : ℕ). n + one_if (names c e.reply)) is.frames ∙ sym (ap length (sent-more a H e c) ∙ length-append (sent a H c) (added a (moment H e) (sent a H c) c) ∙ ap (λ (n : ℕ). length (sent a H c) + n) (gains_as_named a H e c legal lawful e.call refl));
+      frames = ap (λ (n : ℕ). n + one_if (names c e.reply)) is.frames ∙ sym (ap length (sent-more a H e c) ∙ length-append (sent a H c) (added a (moment H e) (sent a H c) c)
+          ∙ ap (λ (n : ℕ). length (sent a H c) + n) (gains_as_named a H e c legal lawful e.call refl));
       newest = ap (λ (n : ℕ). fold (newer c) n e.looks) is.newest ∙ sym (looked-more H e c);
     }
 
-rows_more : (a : About) (H : List Entry) (e : Entry) (rows : List Row) → Legal a H → Lawful a (moment H e) → AllByRecursion (λ r. (list_any (joins r.connection.number) H ≡ true) × IsRowOf a H r) rows → AllByRecursion (IsRowOf a (H ++ e ∷ [])) (filter (λ r. not (leaves r.connection.number e)) (map (row_after e) rows))
+rows_more : (a : About) (H : List Entry) (e : Entry) (rows : List Row) → Legal a H → Lawful a (moment H e)
+    → AllByRecursion (λ r. (list_any (joins r.connection.number) H ≡ true) × IsRowOf a H r) rows
+    → AllByRecursion (IsRowOf a (H ++ e ∷ [])) (filter (λ r. not (leaves r.connection.number e)) (map (row_after e) rows))
 rows_more a H e [] legal lawful all = tt
 rows_more a H e (r ∷ rows) legal lawful all =
     let rest = rows_more a H e rows legal lawful all.1 in
     let F = filter (λ (r : Row). not (leaves r.connection.number e)) (map (row_after e) rows) in
-    elim (not (leaves r.connection.number e)) as (λ b. AllByRecursion (IsRowOf a (H ++ e ∷ [])) (cond b (row_after e r ∷ F) F)) [ true ↦ (row_more a H e r legal lawful all.0.0 all.0.1, rest) | false ↦ rest ]
+    elim (not (leaves r.connection.number e)) as (λ b. AllByRecursion (IsRowOf a (H ++ e ∷ []))
+    (cond b (row_after e r ∷ F) F)) [ true ↦ (row_more a H e r legal lawful all.0.0 all.0.1, rest) | false ↦ rest ]
 
 -- the row of the connection that joins
 new_so : (a : About) (H : List Entry) (e : Entry) (x : Connection) → Legal a H → Lawful a (moment H e) → connection_of e ≡ Some x → IsRowOf a (H ++ e ∷ []) (new_row x)
@@ -110,7 +120,9 @@ new_so a H e x legal lawful new =
     let next = (comes a H e x lawful new).0 in
     let far : length (joined H) < c = omega arith in
     let fresh = fresh_joins a H c legal far in
-    let quiet : length (sent a (H ++ e ∷ []) c) ≡ 0 = ap length (sent-more a H e c) ∙ length-append (sent a H c) (added a (moment H e) (sent a H c) c) ∙ ap (λ (n : ℕ). length (sent a H c) + n) (gains_as_named a H e c legal lawful e.call refl ∙ ap one_if (made_names c e.caller e.call e.reply x new)) ∙ ap (λ (l : List (List ℕ)). length l + 0) (fresh_sent a H c legal far) in
+    let quiet : length (sent a (H ++ e ∷ []) c) ≡ 0 = ap length (sent-more a H e c) ∙ length-append (sent a H c) (added a (moment H e) (sent a H c) c)
+    ∙ ap (λ (n : ℕ). length (sent a H c) + n) (gains_as_named a H e c legal lawful e.call refl ∙ ap one_if (made_names c e.caller e.call e.reply x new))
+    ∙ ap (λ (l : List (List ℕ)). length l + 0) (fresh_sent a H c legal far) in
     let ahead = (within_capacity a (H ++ e ∷ []) (Legal-more a H e legal lawful)).not_ahead c in
     let unlooked : looked (H ++ e ∷ []) c ≡ 0 = omega arith in
     record {
@@ -119,19 +131,22 @@ new_so a H e x legal lawful new =
       newest = sym unlooked;
     }
 
-news : (a : About) (H : List Entry) (e : Entry) (o : Option Connection) → Legal a H → Lawful a (moment H e) → connection_of e ≡ o → AllByRecursion (IsRowOf a (H ++ e ∷ [])) (map new_row (option_to_list o))
+news : (a : About) (H : List Entry) (e : Entry) (o : Option Connection) → Legal a H → Lawful a (moment H e) → connection_of e ≡ o
+    → AllByRecursion (IsRowOf a (H ++ e ∷ [])) (map new_row (option_to_list o))
 news a H e None legal lawful is = tt
 news a H e (Some x) legal lawful is = (new_so a H e x legal lawful is, tt)
 
 -- connections
 
-old_connections : (e : Entry) (rows : List Row) → map connection (filter (λ r. not (leaves r.connection.number e)) (map (row_after e) rows)) ≡ filter (λ x. not (leaves x.number e)) (map connection rows)
+old_connections : (e : Entry) (rows : List Row) → map connection (filter (λ r. not (leaves r.connection.number e)) (map (row_after e) rows))
+    ≡ filter (λ x. not (leaves x.number e)) (map connection rows)
 old_connections e [] = refl
 old_connections e (r ∷ rows) =
     let rest = old_connections e rows in
     let F = filter (λ (r : Row). not (leaves r.connection.number e)) (map (row_after e) rows) in
     let G = filter (λ (x : Connection). not (leaves x.number e)) (map connection rows) in
-    elim (not (leaves r.connection.number e)) as (λ b. map connection (cond b (row_after e r ∷ F) F) ≡ cond b (r.connection ∷ G) G) [ true ↦ ap (λ (l : List Connection). r.connection ∷ l) rest | false ↦ rest ]
+    elim (not (leaves r.connection.number e)) as (λ b. map connection (cond b (row_after e r ∷ F) F)
+    ≡ cond b (r.connection ∷ G) G) [ true ↦ ap (λ (l : List Connection). r.connection ∷ l) rest | false ↦ rest ]
 
 new_connections : (o : Option Connection) → map connection (map new_row (option_to_list o)) ≡ option_to_list o
 new_connections None = refl
@@ -157,7 +172,9 @@ advances l n a H e s lawful by =
       count = by.entry ∙ ap (λ (k : ℕ). k + 1) s.count ∙ sym (length-append H (e ∷ []));
       stopped_so = by.stop ∙ ap (λ (b : Bool). b || stops e) s.stopped_so ∙ sym (is_stopped-more H e);
       counted = by.count ∙ ap (λ (k : Counts). plus k (counts_of e)) s.counted ∙ sym (counts-more H e);
-      unleft_rows = ap (map connection) by.rows ∙ map-append connection old new ∙ ap (λ (xs : List Connection). xs ++ map connection new) (old_connections e l.rows.items ∙ ap (filter (λ (x : Connection). not (leaves x.number e))) s.unleft_rows) ∙ ap (λ (xs : List Connection). filter (λ (x : Connection). not (leaves x.number e)) (unleft H) ++ xs) (new_connections (connection_of e)) ∙ sym (unleft-more H e);
+      unleft_rows = ap (map connection) by.rows ∙ map-append connection old new
+          ∙ ap (λ (xs : List Connection). xs ++ map connection new) (old_connections e l.rows.items ∙ ap (filter (λ (x : Connection). not (leaves x.number e))) s.unleft_rows)
+          ∙ ap (λ (xs : List Connection). filter (λ (x : Connection). not (leaves x.number e)) (unleft H) ++ xs) (new_connections (connection_of e)) ∙ sym (unleft-more H e);
       each_row = subst (λ (rows : List Row). AllByRecursion (IsRowOf a (H ++ e ∷ [])) rows) (sym by.rows) each;
     }
 
@@ -166,7 +183,8 @@ pub follows : (l n : Legality) (a : About) (H : List Entry) (e : Entry) → Lega
 follows l n a H e s agreed by = advances l n a H e s (subst (λ (b : About). Lawful b (moment H e)) s.about_so (accepts_lawful l H e (stands_own l a H s) agreed)) by
 
 -- the state of no entries
-pub stands_none : (l : Legality) (a : About) → l.about ≡ a → l.entries ≡ 0 → l.stopped ≡ false → l.counts ≡ record { joined = 0; replaced = 0; refused = 0; unicasts = 0; broadcasts = 0; appended = 0; dropped = 0; full = 0; missed = 0 } → l.rows.items ≡ [] → LegalityStands l a []
+pub stands_none : (l : Legality) (a : About) → l.about ≡ a → l.entries ≡ 0 → l.stopped ≡ false
+    → l.counts ≡ record { joined = 0; replaced = 0; refused = 0; unicasts = 0; broadcasts = 0; appended = 0; dropped = 0; full = 0; missed = 0 } → l.rows.items ≡ [] → LegalityStands l a []
 unfolding joined_where counts
 stands_none l a about entries stop count rows = record {
   legal = record { lawful = tt };

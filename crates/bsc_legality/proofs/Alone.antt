@@ -1,4 +1,5 @@
 -- Of rows whose live connections have addresses of their own, one that has an address is the one that is found by it.
+-- It serves the clauses of `holder_if`.
 use Rattle.std.proofs.Common.{◌≡◌, ◌≢◌, inl, inr, ℕ, Bool, true, false, cond, List, [], ◌∷◌, map, filter, Option, Some, None, MatchOption, refl, ap, sym, ◌∙◌, subst}
 use Rattle.std.proofs.lemmas.Bool.{and_from, and_parts}
 use Rattle.bsc_octets.specs.declared.vmac.Vmac.{Vmac}
@@ -19,7 +20,8 @@ alone_found [] r v alone m going same = absurd m
 alone_found (x ∷ rows) r v alone m going same =
     let K = λ (c : Connection). c.who.vmac in
     let F = filter is_open rows in
-    let off : (b : Bool) → Apart K (map connection (cond b (x ∷ F) F)) → Apart K (map connection F) = λ b. elim b as (λ b. Apart K (map connection (cond b (x ∷ F) F)) → Apart K (map connection F)) [ true ↦ λ h. h.1 | false ↦ λ h. h ] in
+    let off : (b : Bool) → Apart K (map connection (cond b (x ∷ F) F)) → Apart K (map connection F) =
+    λ b. elim b as (λ b. Apart K (map connection (cond b (x ∷ F) F)) → Apart K (map connection F)) [ true ↦ λ h. h.1 | false ↦ λ h. h ] in
     let rest : AreAlone rows = off (is_open x) alone in
     elim m [
       | inl e ↦ (
@@ -27,7 +29,8 @@ alone_found (x ∷ rows) r v alone m going same =
           let here : is_open_with (holds v) x ≡ true = subst (λ (z : Row). is_open_with (holds v) z ≡ true) (sym e) both in
           ap (λ (b : Bool). cond b (Some x) (holder_in rows v)) here ∙ ap Some e)
       | inr n ↦ (
-          let by : (b : Bool) → is_open_with (holds v) x ≡ b → cond b (Some x) (holder_in rows v) ≡ Some r = λ b. elim b as (λ b. is_open_with (holds v) x ≡ b → cond b (Some x) (holder_in rows v) ≡ Some r) [
+          let by : (b : Bool) → is_open_with (holds v) x ≡ b → cond b (Some x) (holder_in rows v) ≡ Some r =
+          λ b. elim b as (λ b. is_open_with (holds v) x ≡ b → cond b (Some x) (holder_in rows v) ≡ Some r) [
             | true ↦ λ t. (
                 let two = and_parts (is_open x) (same_vmac x.connection.who.vmac v) t in
                 let apart = subst (λ (b : Bool). Apart K (map connection (cond b (x ∷ F) F))) two.0 alone in
@@ -41,7 +44,8 @@ alone_found (x ∷ rows) r v alone m going same =
 -- a row that is found by a number is among the rows
 pub found_among : (rows : List Row) (c : ℕ) (r : Row) → row_of rows c ≡ Some r → In r rows
 found_among rows c r is =
-    let on : (o : Option Row) → o ≡ Some r → MatchOption o ((x : Row) → In x rows → has_number c x ≡ false) (λ x. In x rows × (has_number c x ≡ true)) → In r rows = λ o. elim o as (λ o. o ≡ Some r → MatchOption o ((x : Row) → In x rows → has_number c x ≡ false) (λ x. In x rows × (has_number c x ≡ true)) → In r rows) [
+    let on : (o : Option Row) → o ≡ Some r → MatchOption o ((x : Row) → In x rows → has_number c x ≡ false) (λ x. In x rows × (has_number c x ≡ true))
+    → In r rows = λ o. elim o as (λ o. o ≡ Some r → MatchOption o ((x : Row) → In x rows → has_number c x ≡ false) (λ x. In x rows × (has_number c x ≡ true)) → In r rows) [
       | None ↦ λ e no. cc
       | Some x ↦ λ e it. (let same : x ≡ r = cc in subst (λ (z : Row). In z rows) same it.0)
     ] in

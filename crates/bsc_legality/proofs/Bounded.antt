@@ -1,5 +1,7 @@
 -- The bounds of a state hold after an entry that is accepted, which has a row to join at.
-use Rattle.std.proofs.Common.{◌≡◌, ℕ, suc, ◌+◌, ◌*◌, ◌^◌, ◌<◌, ◌≤◌, ◌==◌, nat_le, nat_lt, Bool, true, false, not, ◌||◌, cond, List, [], ◌∷◌, ◌++◌, length, map, filter, Option, Some, None, is_none, option_to_list, refl, ap, sym, ◌∙◌, subst, arith}
+-- It serves the clauses of `follow`.
+use Rattle.std.proofs.Common.{◌≡◌, ℕ, suc, ◌+◌, ◌*◌, ◌^◌, ◌<◌, ◌≤◌, ◌==◌, nat_le, nat_lt, Bool, true, false, not, ◌||◌, cond, List, [], ◌∷◌, ◌++◌, length, map, filter, Option}
+use Rattle.std.proofs.Common.{Some, None, is_none, option_to_list, refl, ap, sym, ◌∙◌, subst, arith}
 use Rattle.std.specs.List.{list_all}
 use Rattle.std.proofs.lemmas.Bool.{and_from, and_parts, le-leb, leb-true, lt-ltb, ltb-true, ne_eqb}
 use Rattle.bsc_octets.specs.Forwarding.{destination, is_broadcast}
@@ -20,7 +22,8 @@ use Rattle.bsc_history.specs.Replies.{unless_ended}
 use Rattle.bsc_legality.specs.declared.row.Row.{Row}
 use Rattle.bsc_legality.specs.declared.legality.Legality.{Legality}
 use Rattle.bsc_legality.specs.Bounds.{AreAtMost}
-use Rattle.bsc_legality.specs.Deciding.{accepts, all_due, all_looked, can_all, conns, due, fares_so, first_reply, is_full_at, is_long_at, is_meant_with, looks_due, may_call_in, one_due, one_looked, says_due, sent_due, sent_looked, size_in}
+use Rattle.bsc_legality.specs.Deciding.{accepts, all_due, all_looked, can_all, conns, due, fares_so, first_reply, is_full_at, is_long_at, is_meant_with, looks_due, may_call_in}
+use Rattle.bsc_legality.specs.Deciding.{one_due, one_looked, says_due, sent_due, sent_looked, size_in}
 use Rattle.bsc_legality.specs.Following.{NamesOnce, new_row, once, row_after, rows_after}
 use Rattle.bsc_legality.specs.Rows.{end_in, holder_in, number, rising, row_of}
 use Rattle.bsc_legality.specs.Sameness.{same_numbers, same_reply}
@@ -136,10 +139,15 @@ one_plain n outbox size looks None = plain n _ (omega arith) refl tt
 one_plain n outbox size looks (Some r) =
     elim (is_long_at size r) as (λ b. AreShort n (cond b (Skipped r.connection.number) (cond (is_full_at outbox looks r) (Closed r.connection.number) (Appended r.connection.number)))) [
       | true ↦ plain n _ (omega arith) refl tt
-      | false ↦ elim (is_full_at outbox looks r) as (λ b. AreShort n (cond b (Closed r.connection.number) (Appended r.connection.number))) [ true ↦ plain n _ (omega arith) refl tt | false ↦ plain n _ (omega arith) refl tt ]
+      | false ↦ elim (is_full_at outbox looks r) as (λ b. AreShort n (cond b (Closed r.connection.number) (Appended r.connection.number))) [
+        | true ↦ plain n _
+            (omega arith) refl tt
+        | false ↦ plain n _ (omega arith) refl tt
+      ]
     ]
 
-all_plain : (outbox sender size : ℕ) (looks : List Look) (rows : List Row) → rising rows ≡ true → conns looks ≡ all_looked sender size rows → AreShort (length rows) (all_due outbox sender size looks rows)
+all_plain : (outbox sender size : ℕ) (looks : List Look) (rows : List Row) → rising rows ≡ true → conns looks ≡ all_looked sender size rows
+    → AreShort (length rows) (all_due outbox sender size looks rows)
 all_plain outbox sender size looks rows rise named =
     let few : length (conns looks) ≤ length rows + 1 = (let short = all_short sender size rows in let same = ap length named in omega (arith, short, same)) in
     let each : once (conns looks) ≡ true = ap once named ∙ rising_once (is_meant_with sender (λ r. not (is_long_at size r))) rows rise in
@@ -149,26 +157,35 @@ all_plain outbox sender size looks rows rise named =
       names_once = picked_once (fares_so false outbox rows) looks each;
     }
 
-sent_plain : (l : Legality) (sender size : ℕ) (m : List ℕ) (looks : List Look) → rising l.rows.items ≡ true → conns looks ≡ sent_looked l.rows.items sender m size → AreShort (length l.rows.items) (sent_due l.about.limits.outbox l.rows.items sender m size looks)
+sent_plain : (l : Legality) (sender size : ℕ) (m : List ℕ) (looks : List Look) → rising l.rows.items ≡ true → conns looks ≡ sent_looked l.rows.items sender m size
+    → AreShort (length l.rows.items) (sent_due l.about.limits.outbox l.rows.items sender m size looks)
 sent_plain l sender size m looks rise named =
     let rows = l.rows.items in
     let outbox = l.about.limits.outbox in
     let w = holder_in rows (destination m) in
-    let by : (b : Bool) → conns looks ≡ cond b (all_looked sender size rows) (one_looked size w) → AreShort (length rows) (cond b (all_due outbox sender size looks rows) (one_due outbox size looks w)) = λ b. elim b as (λ b. conns looks ≡ cond b (all_looked sender size rows) (one_looked size w) → AreShort (length rows) (cond b (all_due outbox sender size looks rows) (one_due outbox size looks w))) [
+    let by : (b : Bool) → conns looks ≡ cond b (all_looked sender size rows) (one_looked size w)
+    → AreShort (length rows) (cond b (all_due outbox sender size looks rows) (one_due outbox size looks w)) =
+    λ b. elim b as (λ b. conns looks ≡ cond b (all_looked sender size rows) (one_looked size w)
+    → AreShort (length rows) (cond b (all_due outbox sender size looks rows) (one_due outbox size looks w))) [
       | true ↦ λ k. all_plain outbox sender size looks rows rise k
       | false ↦ λ k. one_plain (length rows) outbox size looks w
     ] in
     by (is_broadcast m) named
 
-forward_plain : (l : Legality) (sender : ℕ) (m : List ℕ) (looks : List Look) → rising l.rows.items ≡ true → conns looks ≡ looks_due l (Forward sender m) → AreShort (length l.rows.items) (due l (Forward sender m) looks)
+forward_plain : (l : Legality) (sender : ℕ) (m : List ℕ) (looks : List Look) → rising l.rows.items ≡ true → conns looks ≡ looks_due l (Forward sender m)
+    → AreShort (length l.rows.items) (due l (Forward sender m) looks)
 forward_plain l sender m looks rise named =
     let rows = l.rows.items in
     let n = size_in rows sender m in
     let sent = sent_looked rows sender m n in
     let body = sent_due l.about.limits.outbox rows sender m n looks in
-    let current : (w : Option End) → conns looks ≡ cond (not (is_none w)) [] sent → AreShort (length rows) (unless_ended w body) = λ w. elim w as (λ w. conns looks ≡ cond (not (is_none w)) [] sent → AreShort (length rows) (unless_ended w body)) [ None ↦ λ k. sent_plain l sender n m looks rise k | Some x ↦ λ k. plain (length rows) _ (omega arith) refl tt ] in
+    let current : (w : Option End) → conns looks ≡ cond (not (is_none w)) [] sent
+    → AreShort (length rows) (unless_ended w body) = λ w. elim w as (λ w. conns looks ≡ cond (not (is_none w)) [] sent
+    → AreShort (length rows) (unless_ended w body)) [ None ↦ λ k. sent_plain l sender n m looks rise k | Some x ↦ λ k. plain (length rows) _ (omega arith) refl tt ] in
     let w = end_in (row_of rows sender) in
-    let served : (b : Bool) → conns looks ≡ cond (b || not (is_none w)) [] sent → AreShort (length rows) (cond b Stopped (unless_ended w body)) = λ b. elim b as (λ b. conns looks ≡ cond (b || not (is_none w)) [] sent → AreShort (length rows) (cond b Stopped (unless_ended w body))) [ true ↦ λ k. plain (length rows) _ (omega arith) refl tt | false ↦ λ k. current w k ] in
+    let served : (b : Bool) → conns looks ≡ cond (b || not (is_none w)) [] sent
+    → AreShort (length rows) (cond b Stopped (unless_ended w body)) = λ b. elim b as (λ b. conns looks ≡ cond (b || not (is_none w)) [] sent
+    → AreShort (length rows) (cond b Stopped (unless_ended w body))) [ true ↦ λ k. plain (length rows) _ (omega arith) refl tt | false ↦ λ k. current w k ] in
     served l.stopped named
 
 joined_plain : (n : ℕ) (stopped is_hub : Bool) (held : Option ℕ) (full : Bool) (rows c : ℕ) (p : Option ℕ) → AreShort n (first_reply stopped is_hub held full rows (Joined c p))
@@ -230,7 +247,8 @@ few_entered n (r ∷ rows) few h =
     let low = leb-true r.entered n p.0 in
     and_from _ _ (lt-ltb r.entered (2 ^ 52) (omega (arith, low))) (few_entered n rows few p.1)
 
-old_within : (n : ℕ) (e : Entry) (rows : List Row) → list_all (λ r. nat_le r.entered n) rows ≡ true → list_all (λ r. nat_le r.entered (n + 1)) (filter (λ r. not (leaves r.connection.number e)) (map (row_after e) rows)) ≡ true
+old_within : (n : ℕ) (e : Entry) (rows : List Row) → list_all (λ r. nat_le r.entered n) rows ≡ true
+    → list_all (λ r. nat_le r.entered (n + 1)) (filter (λ r. not (leaves r.connection.number e)) (map (row_after e) rows)) ≡ true
 old_within n e [] h = refl
 old_within n e (r ∷ rows) h =
     let p = and_parts (nat_le r.entered n) (list_all (λ r. nat_le r.entered n) rows) h in

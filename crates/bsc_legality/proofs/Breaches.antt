@@ -1,6 +1,8 @@
 -- A state tells exactly which condition an entry breaks behind the history that it stands for, and a condition is broken exactly
 -- where the history isn't legal any more.
-use Rattle.std.proofs.Common.{◌≡◌, ◌↔◌, ◌≤◌, ◌-◌, inl, inr, ℕ, Bool, true, false, not, ◌&&◌, ◌||◌, cond, nat_le, nat_lt, List, [], ◌∷◌, ◌++◌, length, map, filter, Option, Some, None, IsTrue, refl, ap, sym, ◌∙◌, subst, append_assoc, append-nil, arith, drop, get_or, take, Result, Ok, Err, IfOk}
+-- It serves clauses of functions of `breaching`, `laws` and `legality`.
+use Rattle.std.proofs.Common.{◌≡◌, ◌↔◌, ◌≤◌, ◌-◌, inl, inr, ℕ, Bool, true, false, not, ◌&&◌, ◌||◌, cond, nat_le, nat_lt, List, [], ◌∷◌, ◌++◌, length, map, filter, Option, Some}
+use Rattle.std.proofs.Common.{None, IsTrue, refl, ap, sym, ◌∙◌, subst, append_assoc, append-nil, arith, drop, get_or, take, Result, Ok, Err, IfOk}
 use Rattle.std.specs.List.{list_any, list_all}
 use Rattle.std.specs.Option.{option_or}
 use Rattle.std.proofs.lemmas.Bool.{and_from, and_parts}
@@ -166,7 +168,8 @@ called_same l H caller (Leave conn taken empties) s =
     let T = taken_breach_in (row_of rows conn) conn taken in
     let U = taken_breach l.about H conn taken in
     let N : Broken = Some (NotOwn conn) in
-    let by : (b : Bool) → is_of_in rows caller conn ≡ b → cond {A = Broken} b T N ≡ cond {A = Broken} b U N = λ b. elim b as (λ b. is_of_in rows caller conn ≡ b → cond {A = Broken} b T N ≡ cond {A = Broken} b U N) [
+    let by : (b : Bool) → is_of_in rows caller conn ≡ b → cond {A = Broken} b T N ≡ cond {A = Broken} b U N =
+    λ b. elim b as (λ b. is_of_in rows caller conn ≡ b → cond {A = Broken} b T N ≡ cond {A = Broken} b U N) [
       | true ↦ λ e. taken_same l H conn taken (has_of l H caller conn s e)
       | false ↦ λ e. refl
     ] in
@@ -174,7 +177,8 @@ called_same l H caller (Leave conn taken empties) s =
 called_same l H caller Stop s = ap (λ (b : Bool). cond {A = Broken} b (Some AfterStop) None) s.stopped_so
 called_same l H caller Count s = calls_same l H s
 
-looks_are_same : (l : Legality) (H : List Entry) (looks : List Look) → Stands l H → ((c : ℕ) → In c (conns looks) → list_any (has_number c) l.rows.items ≡ true) → look_breach_in l.rows.items looks ≡ look_breach l.about H looks
+looks_are_same : (l : Legality) (H : List Entry) (looks : List Look) → Stands l H → ((c : ℕ) → In c (conns looks) → list_any (has_number c) l.rows.items ≡ true)
+    → look_breach_in l.rows.items looks ≡ look_breach l.about H looks
 looks_are_same l H [] s named = refl
 looks_are_same l H (k ∷ looks) s named =
     ap (λ (o : Broken). option_or o (look_breach_in l.rows.items looks)) (taken_same l H k.conn k.taken (has l H k.conn s (named k.conn (inl refl))))

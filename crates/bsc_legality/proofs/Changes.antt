@@ -1,5 +1,7 @@
 -- Rows that change: all of them, or the one of a number.
-use Rattle.std.proofs.Common.{◌≡◌, ℕ, zero, suc, ◌+◌, ◌^◌, ◌<◌, ◌==◌, nat_lt, Bool, true, false, not, ◌&&◌, ◌||◌, cond, List, [], ◌∷◌, length, map, filter, get_or, take, Option, Some, None, refl, ap, sym, ◌∙◌, subst, arith}
+-- It serves clauses of functions of `changing` and `following`.
+use Rattle.std.proofs.Common.{◌≡◌, ℕ, zero, suc, ◌+◌, ◌^◌, ◌<◌, ◌==◌, nat_lt, Bool, true, false, not, ◌&&◌, ◌||◌, cond, List, [], ◌∷◌, length, map, filter, get_or, take, Option}
+use Rattle.std.proofs.Common.{Some, None, refl, ap, sym, ◌∙◌, subst, arith}
 use Rattle.std.proofs.Math.ListN.{set}
 use Rattle.std.specs.List.{list_all, position, AllByRecursion}
 use Rattle.std.specs.Option.{option_map, option_or}
@@ -48,7 +50,8 @@ map_then f g h (r ∷ rows) same = ap (λ (x : Row). x ∷ map g (map f rows)) (
 
 -- a change that leaves numbers alone leaves their order alone
 
-all-map : (n : ℕ) (f : Row → Row) (rows : List Row) → ((r : Row) → (f r).connection.number ≡ r.connection.number) → list_all (λ s. nat_lt n s.connection.number) (map f rows) ≡ list_all (λ s. nat_lt n s.connection.number) rows
+all-map : (n : ℕ) (f : Row → Row) (rows : List Row) → ((r : Row) → (f r).connection.number ≡ r.connection.number)
+    → list_all (λ s. nat_lt n s.connection.number) (map f rows) ≡ list_all (λ s. nat_lt n s.connection.number) rows
 all-map n f [] same = refl
 all-map n f (r ∷ rows) same =
     ap (λ (k : ℕ). nat_lt n k && list_all (λ s. nat_lt n s.connection.number) (map f rows)) (same r)
@@ -90,7 +93,8 @@ stays : (f : Row → Row) (c : ℕ) (rows : List Row) → ((x : Row) → has_num
 stays f c [] still all = tt
 stays f c (r ∷ rows) still all = (still r all.0, stays f c rows still all.1)
 
-put : (f : Row → Row) (c : ℕ) (rows : List Row) (i : ℕ) (d s : Row) → ((x : Row) → has_number c x ≡ false → f x ≡ x) → rising rows ≡ true → i < length rows → has_number c (get_or rows i d) ≡ true → ((k : ℕ) → k < i → has_number c (get_or rows k d) ≡ false) → s ≡ f (get_or rows i d) → set rows i s ≡ map f rows
+put : (f : Row → Row) (c : ℕ) (rows : List Row) (i : ℕ) (d s : Row) → ((x : Row) → has_number c x ≡ false → f x ≡ x) → rising rows ≡ true → i < length rows
+    → has_number c (get_or rows i d) ≡ true → ((k : ℕ) → k < i → has_number c (get_or rows k d) ≡ false) → s ≡ f (get_or rows i d) → set rows i s ≡ map f rows
 put f c [] i d s still rise within here before is = absurd (omega arith)
 put f c (r ∷ rows) zero d s still rise within here before is =
     ap (λ (x : Row). x ∷ rows) is
@@ -100,7 +104,8 @@ put f c (r ∷ rows) (suc i) d s still rise within here before is =
     ∙ ap (λ (l : List Row). f r ∷ l) (put f c rows i d s still (rising_parts r rows rise).1 (omega arith) here (λ k h. before (suc k) (omega arith)) is)
 
 -- a change of the row of c alone, where it is put at its place
-pub placed : (f : Row → Row) (c : ℕ) (rows : List Row) (i : ℕ) (r s : Row) → ((x : Row) → has_number c x ≡ false → f x ≡ x) → rising rows ≡ true → position (has_number c) rows ≡ Some i → r ≡ get_or rows i r → (has_number c r ≡ true → s ≡ f r) → set rows i s ≡ map f rows
+pub placed : (f : Row → Row) (c : ℕ) (rows : List Row) (i : ℕ) (r s : Row) → ((x : Row) → has_number c x ≡ false → f x ≡ x) → rising rows ≡ true → position (has_number c) rows ≡ Some i
+    → r ≡ get_or rows i r → (has_number c r ≡ true → s ≡ f r) → set rows i s ≡ map f rows
 placed f c rows i r s still rise place at is =
     let q = position-Some (has_number c) rows i r place in
     put f c rows i r s still rise q.0 q.1 q.2 (is (ap (has_number c) at ∙ q.1) ∙ ap f at)
@@ -178,11 +183,13 @@ one_more true false apart n = omega arith
 one_more false true apart n = omega arith
 one_more false false apart n = omega arith
 
-pub added_more : (to : List ℕ) (i d : ℕ) (rows : List Row) → once to ≡ true → i < length to → map (added_to (get_or to i d ∷ [])) (map (added_to (take i to)) rows) ≡ map (added_to (take (i + 1) to)) rows
+pub added_more : (to : List ℕ) (i d : ℕ) (rows : List Row) → once to ≡ true → i < length to
+    → map (added_to (get_or to i d ∷ [])) (map (added_to (take i to)) rows) ≡ map (added_to (take (i + 1) to)) rows
 added_more to i d rows one within = map_then (added_to (take i to)) (added_to (get_or to i d ∷ [])) (added_to (take (i + 1) to)) rows (λ r.
     let n = r.connection.number in
     let c = get_or to i d in
-    let apart : (c == n) ≡ true → is_among n (take i to) ≡ false = λ h. subst (λ (k : ℕ). is_among k (take i to) ≡ false) (eqb-true c n h) (not_before to i c one within (get_or_default to i d c within)) in
+    let apart : (c == n) ≡ true → is_among n (take i to) ≡ false = λ h. subst (λ (k : ℕ). is_among k (take i to) ≡ false) (eqb-true c n h)
+    (not_before to i c one within (get_or_default to i d c within)) in
     let same : is_among n (take (i + 1) to) ≡ (is_among n (take i to) || ((c == n) || false)) = ap (is_among n) (take_more to i d within) ∙ list_any-append (λ k. k == n) (take i to) (c ∷ []) in
     ap (λ (k : ℕ). row_with r.connection r.ending k r.looked) (one_more (is_among n (take i to)) (c == n) apart r.entered ∙ ap (λ (b : Bool). r.entered + one_if b) (sym same)))
 
@@ -215,7 +222,8 @@ or_assoc None p q = refl
 or_assoc (Some x) p q = refl
 
 -- all that an entry changes, one after another
-pub after_all : (e : Entry) (rows : List Row) → map (λ r. closed_as (end_by_reply r.connection.number e.reply) r) (map (λ r. closed_as (end_by_call r.connection.number e.call) r) (map (given e.reply) (map (seen e.looks) rows))) ≡ map (row_after e) rows
+pub after_all : (e : Entry) (rows : List Row) → map (λ r. closed_as (end_by_reply r.connection.number e.reply) r)
+    (map (λ r. closed_as (end_by_call r.connection.number e.call) r) (map (given e.reply) (map (seen e.looks) rows))) ≡ map (row_after e) rows
 after_all e rows =
     let C = λ (r : Row). closed_as (end_by_call r.connection.number e.call) r in
     let R = λ (r : Row). closed_as (end_by_reply r.connection.number e.reply) r in
@@ -223,7 +231,8 @@ after_all e rows =
     let S = seen e.looks in
     ap (λ (l : List Row). map R (map C l)) (map_then S G (λ r. G (S r)) rows (λ r. refl))
     ∙ ap (map R) (map_then (λ r. G (S r)) C (λ r. C (G (S r))) rows (λ r. refl))
-    ∙ map_then (λ r. C (G (S r))) R (row_after e) rows (λ r. ap (λ (o : Option End). row_with r.connection o ((G (S r)).entered) ((G (S r)).looked)) (or_assoc r.ending (end_by_call r.connection.number e.call) (end_by_reply r.connection.number e.reply)))
+    ∙ map_then (λ r. C (G (S r))) R (row_after e) rows (λ r. ap (λ (o : Option End). row_with r.connection o ((G (S r)).entered) ((G (S r)).looked))
+    (or_assoc r.ending (end_by_call r.connection.number e.call) (end_by_reply r.connection.number e.reply)))
 
 -- ---- rows that change one after another
 
@@ -271,14 +280,16 @@ given_none Stopped rows one all = map_each (given Stopped) rows added_none
 given_none (Gone ending taken) rows one all = map_each (given (Gone ending taken)) rows added_none
 given_none (Counted counts) rows one all = map_each (given (Counted counts)) rows added_none
 
-pub call_ends_none : (call : Call) (rows : List Row) → ((conn taken empties : ℕ) → call ≡ Leave conn taken empties → ⊥) → (call ≡ Stop → ⊥) → rows ≡ map (λ r. closed_as (end_by_call r.connection.number call) r) rows
+pub call_ends_none : (call : Call) (rows : List Row) → ((conn taken empties : ℕ) → call ≡ Leave conn taken empties → ⊥) → (call ≡ Stop → ⊥)
+    → rows ≡ map (λ r. closed_as (end_by_call r.connection.number call) r) rows
 call_ends_none (Connect who) rows leave stop = map_each (closed_as None) rows closed_none
 call_ends_none (Forward conn frame) rows leave stop = map_each (closed_as None) rows closed_none
 call_ends_none (Leave conn taken empties) rows leave stop = absurd (leave conn taken empties refl)
 call_ends_none Stop rows leave stop = absurd (stop refl)
 call_ends_none Count rows leave stop = map_each (closed_as None) rows closed_none
 
-pub reply_ends_none : (reply : Reply) (rows : List Row) → ((conn : ℕ) (replaced : Option ℕ) → reply ≡ Joined conn replaced → ⊥) → ((conn : ℕ) → reply ≡ Closed conn → ⊥) → rows ≡ map (λ r. closed_as (end_by_reply r.connection.number reply) r) rows
+pub reply_ends_none : (reply : Reply) (rows : List Row) → ((conn : ℕ) (replaced : Option ℕ) → reply ≡ Joined conn replaced → ⊥) → ((conn : ℕ) → reply ≡ Closed conn → ⊥)
+    → rows ≡ map (λ r. closed_as (end_by_reply r.connection.number reply) r) rows
 reply_ends_none (Joined conn replaced) rows joined closed = absurd (joined conn replaced refl)
 reply_ends_none (Refused refusal) rows joined closed = map_each (closed_as None) rows closed_none
 reply_ends_none (Appended conn) rows joined closed = map_each (closed_as None) rows closed_none

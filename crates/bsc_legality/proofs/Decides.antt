@@ -1,5 +1,7 @@
 -- A state tells exactly which entries are lawful after the history that it stands for.
-use Rattle.std.proofs.Common.{◌≡◌, ◌↔◌, inl, inr, ℕ, ◌-◌, ◌==◌, Bool, true, false, not, ◌&&◌, ◌||◌, cond, nat_le, nat_lt, List, [], ◌∷◌, ◌++◌, length, map, filter, find, Option, Some, None, is_none, unwrap_or, option_to_list, MatchOption, IsTrue, refl, ap, sym, ◌∙◌, subst}
+-- It serves clauses of functions of `breaching`, `laws` and `legality`.
+use Rattle.std.proofs.Common.{◌≡◌, ◌↔◌, inl, inr, ℕ, ◌-◌, ◌==◌, Bool, true, false, not, ◌&&◌, ◌||◌, cond, nat_le, nat_lt, List, [], ◌∷◌, ◌++◌, length, map, filter, find, Option}
+use Rattle.std.proofs.Common.{Some, None, is_none, unwrap_or, option_to_list, MatchOption, IsTrue, refl, ap, sym, ◌∙◌, subst}
 use Rattle.std.specs.List.{list_any, list_all}
 use Rattle.std.specs.Option.{option_map}
 use Rattle.std.proofs.lemmas.Bool.{and_from, and_parts, both_ways, eq-eqb, eqb-true, or_left, or_right}
@@ -28,7 +30,8 @@ use Rattle.bsc_history.proofs.Named.{meant-unicast}
 use Rattle.bsc_history.proofs.Numbers.{live_numbers}
 use Rattle.bsc_legality.specs.declared.row.Row.{Row}
 use Rattle.bsc_legality.specs.declared.legality.Legality.{Legality}
-use Rattle.bsc_legality.specs.Deciding.{accepts, all_due, all_looked, can_all, connect_due, conns, due, fares_so, is_full_at, is_long_at, is_meant_with, is_of_in, looks_due, may_call_in, one_due, one_looked, sent_due, sent_looked, size_in}
+use Rattle.bsc_legality.specs.Deciding.{accepts, all_due, all_looked, can_all, connect_due, conns, due, fares_so, is_full_at, is_long_at, is_meant_with, is_of_in, looks_due}
+use Rattle.bsc_legality.specs.Deciding.{may_call_in, one_due, one_looked, sent_due, sent_looked, size_in}
 use Rattle.bsc_legality.specs.Rows.{can_find_at, connection, end_in, finds_full_at, has_number, holder_in, is_open_with, number, row_of}
 use Rattle.bsc_legality.specs.Sameness.{same_numbers, same_reply}
 use Rattle.bsc_legality.specs.Standing.{IsRowOf, LegalityStands}
@@ -62,7 +65,8 @@ pub record Has (l : Legality) (H : List Entry) (c : ℕ) : Type 0 where
 pub has : (l : Legality) (H : List Entry) (c : ℕ) → Stands l H → list_any (has_number c) l.rows.items ≡ true → Has l H c
 has l H c s any =
     let rows = l.rows.items in
-    let on : (o : Option Row) → row_of rows c ≡ o → MatchOption o ((x : Row) → In x rows → has_number c x ≡ false) (λ x. In x rows × (has_number c x ≡ true)) → Has l H c = λ o. elim o as (λ o. row_of rows c ≡ o → MatchOption o ((x : Row) → In x rows → has_number c x ≡ false) (λ x. In x rows × (has_number c x ≡ true)) → Has l H c) [
+    let on : (o : Option Row) → row_of rows c ≡ o → MatchOption o ((x : Row) → In x rows → has_number c x ≡ false) (λ x. In x rows × (has_number c x ≡ true))
+    → Has l H c = λ o. elim o as (λ o. row_of rows c ≡ o → MatchOption o ((x : Row) → In x rows → has_number c x ≡ false) (λ x. In x rows × (has_number c x ≡ true)) → Has l H c) [
       | None ↦ λ e no. absurd (both_ways (list_any (has_number c) rows) (none_passes (has_number c) rows no) any)
       | Some r ↦ λ e it. record { row = r; finds = e; among = it.0; number_so = eqb-true r.connection.number c it.1; is = In_from_all (IsRowOf l.about H) r rows s.each_row it.0 }
     ] in
@@ -78,7 +82,8 @@ weaker t u (r ∷ rows) f h =
     by (t r) refl h
 
 pub has_of : (l : Legality) (H : List Entry) (caller c : ℕ) → Stands l H → is_of_in l.rows.items caller c ≡ true → Has l H c
-has_of l H caller c s is = has l H c s (weaker (λ r. (r.connection.number == c) && (r.connection.caller == caller)) (has_number c) l.rows.items (λ r h. (and_parts (r.connection.number == c) (r.connection.caller == caller) h).0) is)
+has_of l H caller c s is = has l H c s (weaker (λ r. (r.connection.number == c) && (r.connection.caller == caller)) (has_number c) l.rows.items
+    (λ r h. (and_parts (r.connection.number == c) (r.connection.caller == caller) h).0) is)
 
 can_same : (l : Legality) (H : List Entry) (c taken : ℕ) → Has l H c → can_find_at (row_of l.rows.items c) taken ≡ can_find l.about H c taken
 can_same l H c taken h =
@@ -115,7 +120,8 @@ call_same l H caller (Forward sender m) s =
     ∙ ap (λ (n : ℕ). is_of H caller sender && has_route m && nat_lt n l.about.limits.calls) s.count
 call_same l H caller (Leave conn taken empties) s =
     let rows = l.rows.items in
-    let by : (b : Bool) → is_of_in rows caller conn ≡ b → (b && can_find_at (row_of rows conn) taken) ≡ (b && can_find l.about H conn taken) = λ b. elim b as (λ b. is_of_in rows caller conn ≡ b → (b && can_find_at (row_of rows conn) taken) ≡ (b && can_find l.about H conn taken)) [
+    let by : (b : Bool) → is_of_in rows caller conn ≡ b → (b && can_find_at (row_of rows conn) taken) ≡ (b && can_find l.about H conn taken) =
+    λ b. elim b as (λ b. is_of_in rows caller conn ≡ b → (b && can_find_at (row_of rows conn) taken) ≡ (b && can_find l.about H conn taken)) [
       | true ↦ λ e. can_same l H conn taken (has_of l H caller conn s e)
       | false ↦ λ e. refl
     ] in
@@ -140,10 +146,12 @@ connect_same l H who s =
 
 -- ---- unicasts
 
-full_at_same : (a : About) (H : List Entry) (looks : List Look) (r : Row) → IsRowOf a H r → is_full_at a.limits.outbox looks r ≡ is_found_full a (sent a H r.connection.number) looks r.connection.number
+full_at_same : (a : About) (H : List Entry) (looks : List Look) (r : Row) → IsRowOf a H r
+    → is_full_at a.limits.outbox looks r ≡ is_found_full a (sent a H r.connection.number) looks r.connection.number
 full_at_same a H looks r is = ap (λ (n : ℕ). list_any (λ k. (k.conn == r.connection.number) && ((n - k.taken) == a.limits.outbox)) looks) is.frames
 
-unicast_at : (a : About) (H : List Entry) (m o : List ℕ) (looks : List Look) (w : Option Row) → ((r : Row) → w ≡ Some r → IsRowOf a H r) → one_due a.limits.outbox (length o) looks w ≡ unicast_reply a H m o looks (option_map connection w)
+unicast_at : (a : About) (H : List Entry) (m o : List ℕ) (looks : List Look) (w : Option Row) → ((r : Row) → w ≡ Some r → IsRowOf a H r)
+    → one_due a.limits.outbox (length o) looks w ≡ unicast_reply a H m o looks (option_map connection w)
 unicast_at a H m o looks None is = refl
 unicast_at a H m o looks (Some r) is =
     ap (λ (b : Bool). cond (is_too_long o (connection r)) (Skipped r.connection.number) (cond b (Closed r.connection.number) (Appended r.connection.number))) (full_at_same a H looks r (is r refl))
@@ -151,13 +159,15 @@ unicast_at a H m o looks (Some r) is =
 found_row : (l : Legality) (H : List Entry) (p : Row → Bool) (r : Row) → Stands l H → find p l.rows.items ≡ Some r → IsRowOf l.about H r
 found_row l H p r s e =
     let rows = l.rows.items in
-    let on : (o : Option Row) → o ≡ Some r → MatchOption o ((x : Row) → In x rows → p x ≡ false) (λ x. In x rows × (p x ≡ true)) → IsRowOf l.about H r = λ o. elim o as (λ o. o ≡ Some r → MatchOption o ((x : Row) → In x rows → p x ≡ false) (λ x. In x rows × (p x ≡ true)) → IsRowOf l.about H r) [
+    let on : (o : Option Row) → o ≡ Some r → MatchOption o ((x : Row) → In x rows → p x ≡ false) (λ x. In x rows × (p x ≡ true))
+    → IsRowOf l.about H r = λ o. elim o as (λ o. o ≡ Some r → MatchOption o ((x : Row) → In x rows → p x ≡ false) (λ x. In x rows × (p x ≡ true)) → IsRowOf l.about H r) [
       | None ↦ λ e no. cc
       | Some x ↦ λ e it. (let same : x ≡ r = cc in subst (IsRowOf l.about H) same (In_from_all (IsRowOf l.about H) x rows s.each_row it.0))
     ] in
     on (find p rows) e (find_says p rows)
 
-unicast_same : (l : Legality) (H : List Entry) (m o : List ℕ) (looks : List Look) → Stands l H → one_due l.about.limits.outbox (length o) looks (holder_in l.rows.items (destination m)) ≡ unicast_reply l.about H m o looks (holder H (destination m))
+unicast_same : (l : Legality) (H : List Entry) (m o : List ℕ) (looks : List Look) → Stands l H
+    → one_due l.about.limits.outbox (length o) looks (holder_in l.rows.items (destination m)) ≡ unicast_reply l.about H m o looks (holder H (destination m))
 unicast_same l H m o looks s =
     let p = λ (c : Connection). same_vmac c.who.vmac (destination m) in
     unicast_at l.about H m o looks (holder_in l.rows.items (destination m)) (λ r e. found_row l H (is_open_with p) r s e)
@@ -167,7 +177,8 @@ one_at : (o : List ℕ) (w : Option Row) → one_looked (length o) w ≡ numbers
 one_at o None = refl
 one_at o (Some r) = elim (is_too_long o (connection r)) as (λ b. cond b [] (r.connection.number ∷ []) ≡ numbers (cond (not b) (connection r ∷ []) [])) [ true ↦ refl | false ↦ refl ]
 
-one_looks : (l : Legality) (H : List Entry) (sender : ℕ) (m o : List ℕ) → Stands l H → is_broadcast m ≡ false → one_looked (length o) (holder_in l.rows.items (destination m)) ≡ numbers (filter (λ c. not (is_too_long o c)) (meant H sender m))
+one_looks : (l : Legality) (H : List Entry) (sender : ℕ) (m o : List ℕ) → Stands l H → is_broadcast m ≡ false
+    → one_looked (length o) (holder_in l.rows.items (destination m)) ≡ numbers (filter (λ c. not (is_too_long o c)) (meant H sender m))
 one_looks l H sender m o s one =
     let p = λ (c : Connection). same_vmac c.who.vmac (destination m) in
     let P = λ (c : Connection). not (is_too_long o c) in
@@ -181,18 +192,21 @@ one_looks l H sender m o s one =
 meant_all : (H : List Entry) (sender : ℕ) (m : List ℕ) → is_broadcast m ≡ true → meant H sender m ≡ filter (λ x. not (x.number == sender)) (live H)
 meant_all H sender m all = ap (λ (b : Bool). filter (λ x. cond b (not (x.number == sender)) (same_vmac x.who.vmac (destination m))) (live H)) all
 
-meant_same : (l : Legality) (H : List Entry) (sender : ℕ) (m : List ℕ) (P : Connection → Bool) (Q : Row → Bool) → Stands l H → is_broadcast m ≡ true → ((r : Row) → Q r ≡ P (connection r)) → map number (filter (is_meant_with sender Q) l.rows.items) ≡ numbers (filter P (meant H sender m))
+meant_same : (l : Legality) (H : List Entry) (sender : ℕ) (m : List ℕ) (P : Connection → Bool) (Q : Row → Bool) → Stands l H → is_broadcast m ≡ true → ((r : Row) → Q r ≡ P (connection r))
+    → map number (filter (is_meant_with sender Q) l.rows.items) ≡ numbers (filter P (meant H sender m))
 meant_same l H sender m P Q s all same =
     let M = λ (x : Connection). not (x.number == sender) in
     meant_rows M P Q l.rows.items same
     ∙ sym (ap (λ (xs : List Connection). numbers (filter P (filter M xs))) (live_rows l l.about H s))
     ∙ sym (ap (λ (xs : List Connection). numbers (filter P xs)) (meant_all H sender m all))
 
-all_looks : (l : Legality) (H : List Entry) (sender : ℕ) (m o : List ℕ) → Stands l H → is_broadcast m ≡ true → all_looked sender (length o) l.rows.items ≡ numbers (filter (λ c. not (is_too_long o c)) (meant H sender m))
+all_looks : (l : Legality) (H : List Entry) (sender : ℕ) (m o : List ℕ) → Stands l H → is_broadcast m ≡ true
+    → all_looked sender (length o) l.rows.items ≡ numbers (filter (λ c. not (is_too_long o c)) (meant H sender m))
 all_looks l H sender m o s all = meant_same l H sender m (λ c. not (is_too_long o c)) (λ r. not (is_long_at (length o) r)) s all (λ r. refl)
 
 -- those whose outboxes the looks find full, or don't
-fared_looks : (l : Legality) (H : List Entry) (f : Bool) (looks : List Look) → Stands l H → ((c : ℕ) → In c (conns looks) → list_any (has_number c) l.rows.items ≡ true) → filter (fares_so f l.about.limits.outbox l.rows.items) looks ≡ filter (λ k. cond f (full_after l.about H k.conn k.taken) (not (full_after l.about H k.conn k.taken))) looks
+fared_looks : (l : Legality) (H : List Entry) (f : Bool) (looks : List Look) → Stands l H → ((c : ℕ) → In c (conns looks) → list_any (has_number c) l.rows.items ≡ true)
+    → filter (fares_so f l.about.limits.outbox l.rows.items) looks ≡ filter (λ k. cond f (full_after l.about H k.conn k.taken) (not (full_after l.about H k.conn k.taken))) looks
 fared_looks l H f [] s named = refl
 fared_looks l H f (k ∷ looks) s named =
     let G = λ (k : Look). cond f (full_after l.about H k.conn k.taken) (not (full_after l.about H k.conn k.taken)) in
@@ -217,7 +231,9 @@ any_number q c (r ∷ rows) m =
 abbrev full_of : About → List Entry → List Look → Connection → Bool
 full_of a H looks c = is_found_full a (sent a H c.number) looks c.number
 
-fared_same : (l : Legality) (H : List Entry) (sender : ℕ) (m o : List ℕ) (looks : List Look) (f : Bool) → Stands l H → is_broadcast m ≡ true → conns looks ≡ all_looked sender (length o) l.rows.items → conns (filter (fares_so f l.about.limits.outbox l.rows.items) looks) ≡ numbers (filter (λ c. not (is_too_long o c) && cond f (full_of l.about H looks c) (not (full_of l.about H looks c))) (meant H sender m))
+fared_same : (l : Legality) (H : List Entry) (sender : ℕ) (m o : List ℕ) (looks : List Look) (f : Bool) → Stands l H → is_broadcast m ≡ true
+    → conns looks ≡ all_looked sender (length o) l.rows.items → conns (filter (fares_so f l.about.limits.outbox l.rows.items) looks)
+    ≡ numbers (filter (λ c. not (is_too_long o c) && cond f (full_of l.about H looks c) (not (full_of l.about H looks c))) (meant H sender m))
 fared_same l H sender m o looks f s all named =
     let P = λ (c : Connection). not (is_too_long o c) in
     let t = λ (b : Bool). cond f b (not b) in
@@ -227,7 +243,8 @@ fared_same l H sender m o looks f s all named =
     ∙ split (full_after l.about H) t looks xs apart (named ∙ all_looks l H sender m o s all)
     ∙ ap numbers (filter_both P (λ c. t (full_of l.about H looks c)) (meant H sender m))
 
-broadcast_same : (l : Legality) (H : List Entry) (sender : ℕ) (m o : List ℕ) (looks : List Look) → Stands l H → is_broadcast m ≡ true → conns looks ≡ all_looked sender (length o) l.rows.items → all_due l.about.limits.outbox sender (length o) looks l.rows.items ≡ broadcast_reply l.about H o looks (meant H sender m)
+broadcast_same : (l : Legality) (H : List Entry) (sender : ℕ) (m o : List ℕ) (looks : List Look) → Stands l H → is_broadcast m ≡ true
+    → conns looks ≡ all_looked sender (length o) l.rows.items → all_due l.about.limits.outbox sender (length o) looks l.rows.items ≡ broadcast_reply l.about H o looks (meant H sender m)
 broadcast_same l H sender m o looks s all named =
     let one = fared_same l H sender m o looks false s all named in
     let two = fared_same l H sender m o looks true s all named in
@@ -237,19 +254,23 @@ broadcast_same l H sender m o looks s all named =
 -- ---- forwards
 
 -- what a frame is due whose sender goes on, where it looked at whom it is to look at
-sends_same : (l : Legality) (H : List Entry) (sender : ℕ) (m o : List ℕ) (looks : List Look) → Stands l H → conns looks ≡ sent_looked l.rows.items sender m (length o) → sent_due l.about.limits.outbox l.rows.items sender m (length o) looks ≡ cond (is_broadcast m) (broadcast_reply l.about H o looks (meant H sender m)) (unicast_reply l.about H m o looks (holder H (destination m)))
+sends_same : (l : Legality) (H : List Entry) (sender : ℕ) (m o : List ℕ) (looks : List Look) → Stands l H → conns looks ≡ sent_looked l.rows.items sender m (length o)
+    → sent_due l.about.limits.outbox l.rows.items sender m (length o) looks
+    ≡ cond (is_broadcast m) (broadcast_reply l.about H o looks (meant H sender m)) (unicast_reply l.about H m o looks (holder H (destination m)))
 sends_same l H sender m o looks s named =
     let rows = l.rows.items in
     let all = all_looked sender (length o) rows in
     let one = one_looked (length o) (holder_in rows (destination m)) in
-    let G = λ (b : Bool). cond b (all_due l.about.limits.outbox sender (length o) looks rows) (one_due l.about.limits.outbox (length o) looks (holder_in rows (destination m))) ≡ cond b (broadcast_reply l.about H o looks (meant H sender m)) (unicast_reply l.about H m o looks (holder H (destination m))) in
+    let G = λ (b : Bool). cond b (all_due l.about.limits.outbox sender (length o) looks rows) (one_due l.about.limits.outbox (length o) looks (holder_in rows (destination m)))
+    ≡ cond b (broadcast_reply l.about H o looks (meant H sender m)) (unicast_reply l.about H m o looks (holder H (destination m))) in
     let by : (b : Bool) → is_broadcast m ≡ b → conns looks ≡ cond b all one → G b = λ b. elim b as (λ b. is_broadcast m ≡ b → conns looks ≡ cond b all one → G b) [
       | true ↦ λ e n. broadcast_same l H sender m o looks s e n
       | false ↦ λ e n. unicast_same l H m o looks s
     ] in
     by (is_broadcast m) refl named
 
-forward_same : (l : Legality) (H : List Entry) (sender : ℕ) (m : List ℕ) (looks : List Look) → Stands l H → Has l H sender → conns looks ≡ looks_due l (Forward sender m) → due l (Forward sender m) looks ≡ forward_reply l.about H sender m looks
+forward_same : (l : Legality) (H : List Entry) (sender : ℕ) (m : List ℕ) (looks : List Look) → Stands l H → Has l H sender → conns looks ≡ looks_due l (Forward sender m)
+    → due l (Forward sender m) looks ≡ forward_reply l.about H sender m looks
 unfolding forward_reply
 forward_same l H sender m looks s h named =
     let a = l.about in
@@ -259,10 +280,16 @@ forward_same l H sender m looks s h named =
     let long = size_same l H sender m s h in
     let body = sent_due a.limits.outbox rows sender m n looks in
     let wanted = cond (is_broadcast m) (broadcast_reply a H o looks (meant H sender m)) (unicast_reply a H m o looks (holder H (destination m))) in
-    let sends : conns looks ≡ sent_looked rows sender m n → body ≡ wanted = λ k. ap (λ (i : ℕ). sent_due a.limits.outbox rows sender m i looks) long ∙ sends_same l H sender m o looks s (k ∙ ap (sent_looked rows sender m) long) in
-    let current : (w : Option End) → conns looks ≡ cond (not (is_none w)) [] (sent_looked rows sender m n) → unless_ended w body ≡ unless_ended w wanted = λ w. elim w as (λ w. conns looks ≡ cond (not (is_none w)) [] (sent_looked rows sender m n) → unless_ended w body ≡ unless_ended w wanted) [ None ↦ λ k. sends k | Some x ↦ λ k. refl ] in
+    let sends : conns looks ≡ sent_looked rows sender m n → body ≡ wanted = λ k. ap (λ (i : ℕ). sent_due a.limits.outbox rows sender m i looks) long
+    ∙ sends_same l H sender m o looks s (k ∙ ap (sent_looked rows sender m) long) in
+    let current : (w : Option End) → conns looks ≡ cond (not (is_none w)) [] (sent_looked rows sender m n)
+    → unless_ended w body ≡ unless_ended w wanted = λ w. elim w as (λ w. conns looks ≡ cond (not (is_none w)) [] (sent_looked rows sender m n)
+    → unless_ended w body ≡ unless_ended w wanted) [ None ↦ λ k. sends k | Some x ↦ λ k. refl ] in
     let w = end_in (row_of rows sender) in
-    let served : (b : Bool) → conns looks ≡ cond (b || not (is_none w)) [] (sent_looked rows sender m n) → cond b Stopped (unless_ended w body) ≡ cond b Stopped (unless_ended w wanted) = λ b. elim b as (λ b. conns looks ≡ cond (b || not (is_none w)) [] (sent_looked rows sender m n) → cond b Stopped (unless_ended w body) ≡ cond b Stopped (unless_ended w wanted)) [ true ↦ λ k. refl | false ↦ λ k. current w k ] in
+    let served : (b : Bool) → conns looks ≡ cond (b || not (is_none w)) [] (sent_looked rows sender m n)
+    → cond b Stopped (unless_ended w body) ≡ cond b Stopped (unless_ended w wanted) =
+    λ b. elim b as (λ b. conns looks ≡ cond (b || not (is_none w)) [] (sent_looked rows sender m n)
+    → cond b Stopped (unless_ended w body) ≡ cond b Stopped (unless_ended w wanted)) [ true ↦ λ k. refl | false ↦ λ k. current w k ] in
     served l.stopped named
     ∙ ap (λ (b : Bool). cond b Stopped (unless_ended w wanted)) s.stopped_so
     ∙ ap (λ (v : Option End). cond (is_stopped H) Stopped (unless_ended v wanted)) (ends_same l H sender h)
@@ -313,10 +340,13 @@ looks_same l H Count s h = refl
 
 one_number : (p : Row → Bool) (size c : ℕ) (rows : List Row) → In c (one_looked size (find p rows)) → list_any (has_number c) rows ≡ true
 one_number p size c rows m =
-    let on : (o : Option Row) → MatchOption o ((x : Row) → In x rows → p x ≡ false) (λ x. In x rows × (p x ≡ true)) → In c (one_looked size o) → list_any (has_number c) rows ≡ true = λ o. elim o as (λ o. MatchOption o ((x : Row) → In x rows → p x ≡ false) (λ x. In x rows × (p x ≡ true)) → In c (one_looked size o) → list_any (has_number c) rows ≡ true) [
+    let on : (o : Option Row) → MatchOption o ((x : Row) → In x rows → p x ≡ false) (λ x. In x rows × (p x ≡ true)) → In c (one_looked size o)
+    → list_any (has_number c) rows ≡ true = λ o. elim o as (λ o. MatchOption o ((x : Row) → In x rows → p x ≡ false) (λ x. In x rows × (p x ≡ true)) → In c (one_looked size o)
+    → list_any (has_number c) rows ≡ true) [
       | None ↦ λ no k. absurd k
       | Some r ↦ λ it k. (
-          let by : (b : Bool) → In c (cond b [] (r.connection.number ∷ [])) → list_any (has_number c) rows ≡ true = λ b. elim b as (λ b. In c (cond b [] (r.connection.number ∷ [])) → list_any (has_number c) rows ≡ true) [
+          let by : (b : Bool) → In c (cond b [] (r.connection.number ∷ [])) → list_any (has_number c) rows ≡ true =
+          λ b. elim b as (λ b. In c (cond b [] (r.connection.number ∷ [])) → list_any (has_number c) rows ≡ true) [
             | true ↦ λ n. absurd n
             | false ↦ λ n. elim n [ inl e ↦ any_In (has_number c) r rows it.0 (eq-eqb r.connection.number c e) | inr z ↦ absurd z ]
           ] in
@@ -341,13 +371,15 @@ due_rows l (Leave conn taken empties) c m = absurd m
 due_rows l Stop c m = absurd m
 due_rows l Count c m = absurd m
 
-found_all : (l : Legality) (H : List Entry) (looks : List Look) → Stands l H → ((c : ℕ) → In c (conns looks) → list_any (has_number c) l.rows.items ≡ true) → can_all l.rows.items looks ≡ list_all (λ k. can_find l.about H k.conn k.taken) looks
+found_all : (l : Legality) (H : List Entry) (looks : List Look) → Stands l H → ((c : ℕ) → In c (conns looks) → list_any (has_number c) l.rows.items ≡ true)
+    → can_all l.rows.items looks ≡ list_all (λ k. can_find l.about H k.conn k.taken) looks
 found_all l H [] s named = refl
 found_all l H (k ∷ looks) s named =
     ap (λ (b : Bool). b && can_all l.rows.items looks) (can_same l H k.conn k.taken (has l H k.conn s (named k.conn (inl refl))))
     ∙ ap (λ (b : Bool). can_find l.about H k.conn k.taken && b) (found_all l H looks s (λ c m. named c (inr m)))
 
-found_same : (l : Legality) (H : List Entry) (call : Call) (looks : List Look) → Stands l H → conns looks ≡ looks_due l call → can_all l.rows.items looks ≡ list_all (λ k. can_find l.about H k.conn k.taken) looks
+found_same : (l : Legality) (H : List Entry) (call : Call) (looks : List Look) → Stands l H → conns looks ≡ looks_due l call
+    → can_all l.rows.items looks ≡ list_all (λ k. can_find l.about H k.conn k.taken) looks
 found_same l H call looks s named = found_all l H looks s (λ c m. due_rows l call c (subst (In c) named m))
 
 -- ---- the theorem

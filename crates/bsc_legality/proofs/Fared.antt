@@ -1,4 +1,5 @@
 -- What a broadcast's looks find tells who gets it and who misses it.
+-- It serves clauses of functions of `breaching`, `laws` and `legality`.
 use Rattle.std.proofs.Common.{◌≡◌, ◌≢◌, ℕ, ◌==◌, Bool, true, false, ◌&&◌, ◌||◌, cond, List, [], ◌∷◌, filter, refl, ap, sym, ◌∙◌}
 use Rattle.std.specs.List.{list_any, AllByRecursion}
 use Rattle.std.proofs.lemmas.Bool.{eq-eqb, ne_eqb}
@@ -40,7 +41,8 @@ absent F c (k ∷ ks) (y ∷ ys) same all =
 
 -- Where looks are at these connections, one each and in order, those that pass by their looks are those whose looks
 -- pass.
-pub split : (F : ℕ → ℕ → Bool) (f : Bool → Bool) (looks : List Look) (xs : List Connection) → Apart (λ (c : Connection). c.number) xs → conns looks ≡ numbers xs → conns (filter (λ k. f (F k.conn k.taken)) looks) ≡ numbers (filter (λ x. f (some_at F looks x.number)) xs)
+pub split : (F : ℕ → ℕ → Bool) (f : Bool → Bool) (looks : List Look) (xs : List Connection) → Apart (λ (c : Connection). c.number) xs → conns looks ≡ numbers xs
+    → conns (filter (λ k. f (F k.conn k.taken)) looks) ≡ numbers (filter (λ x. f (some_at F looks x.number)) xs)
 split F f [] [] apart same = refl
 split F f [] (x ∷ xs) apart same = cc
 split F f (k ∷ ks) [] apart same = cc
@@ -53,7 +55,8 @@ split F f (k ∷ ks) (x ∷ xs) apart same =
     ∙ or_false (F x.number k.taken)
     ∙ ap (λ (c : ℕ). F c k.taken) (sym head)) in
     let each = agree k ks x.number xs head apart.0 in
-    let rest : conns (filter (λ k. f (F k.conn k.taken)) ks) ≡ numbers (filter (λ y. f (some_at F (k ∷ ks) y.number)) xs) = split F f ks xs apart.1 tail ∙ sym (ap numbers (filter_agree (λ y. f (some_at F (k ∷ ks) y.number)) (λ y. f (some_at F ks y.number)) xs each)) in
+    let rest : conns (filter (λ k. f (F k.conn k.taken)) ks) ≡ numbers (filter (λ y. f (some_at F (k ∷ ks) y.number)) xs) = split F f ks xs apart.1 tail
+    ∙ sym (ap numbers (filter_agree (λ y. f (some_at F (k ∷ ks) y.number)) (λ y. f (some_at F ks y.number)) xs each)) in
     let R = filter (λ (k : Look). f (F k.conn k.taken)) ks in
     let S = filter (λ (y : Connection). f (some_at F (k ∷ ks) y.number)) xs in
     elim (f (F k.conn k.taken)) as (λ b. conns (cond b (k ∷ R) R) ≡ numbers (cond b (x ∷ S) S)) [
@@ -62,7 +65,8 @@ split F f (k ∷ ks) (x ∷ xs) apart same =
     ]
     ∙ ap (λ (b : Bool). numbers (cond b (x ∷ S) S)) (ap f (sym here))
   where
-    agree : (k : Look) (ks : List Look) (c : ℕ) (ys : List Connection) → k.conn ≡ c → AllByRecursion (λ (y : Connection). c ≢ y.number) ys → AllByRecursion (λ y. f (some_at F (k ∷ ks) y.number) ≡ f (some_at F ks y.number)) ys
+    agree : (k : Look) (ks : List Look) (c : ℕ) (ys : List Connection) → k.conn ≡ c → AllByRecursion (λ (y : Connection). c ≢ y.number) ys
+        → AllByRecursion (λ y. f (some_at F (k ∷ ks) y.number) ≡ f (some_at F ks y.number)) ys
     agree k ks c [] head all = tt
     agree k ks c (y ∷ ys) head all =
         (ap (λ (b : Bool). f ((b && F y.number k.taken) || some_at F ks y.number)) (ne_eqb k.conn y.number (λ e. all.0 (sym head ∙ e))), agree k ks c ys head all.1)

@@ -1,4 +1,5 @@
 -- The rows of live connections.
+-- It serves clauses of functions of `breaching`, `deciding`, `laws` and `legality`.
 use Rattle.std.proofs.Common.{◌≡◌, inl, inr, ℕ, Bool, true, false, ◌&&◌, ◌||◌, cond, List, [], ◌∷◌, map, filter, find, Some, is_none, refl, ap, sym, ◌∙◌}
 use Rattle.std.specs.List.{list_any, AllByRecursion}
 use Rattle.std.specs.Option.{option_map}
@@ -30,7 +31,8 @@ open_rows a H (r ∷ rows) all =
     let E = λ (x : Connection). is_none (ended H x.number) in
     let same : E (connection r) ≡ is_open r = ap is_none (sym all.0.ends) in
     ap (λ (b : Bool). cond b (connection r ∷ filter E (map connection rows)) (filter E (map connection rows))) same
-    ∙ elim (is_open r) as (λ b. cond b (connection r ∷ filter E (map connection rows)) (filter E (map connection rows)) ≡ map connection (cond b (r ∷ filter is_open rows) (filter is_open rows))) [ true ↦ ap (λ (l : List Connection). connection r ∷ l) rest | false ↦ rest ]
+    ∙ elim (is_open r) as (λ b. cond b (connection r ∷ filter E (map connection rows)) (filter E (map connection rows))
+    ≡ map connection (cond b (r ∷ filter is_open rows) (filter is_open rows))) [ true ↦ ap (λ (l : List Connection). connection r ∷ l) rest | false ↦ rest ]
 
 -- the live connections are those of the rows that are open
 pub live_rows : (l : Legality) (a : About) (H : List Entry) → LegalityStands l a H → live H ≡ map connection (filter is_open l.rows.items)
@@ -39,8 +41,10 @@ live_rows l a H s = live_unended a H s.legal ∙ ap (filter (λ x. is_none (ende
 find_open : (p : Connection → Bool) (rows : List Row) → find p (map connection (filter is_open rows)) ≡ option_map connection (find (is_open_with p) rows)
 find_open p [] = refl
 find_open p (r ∷ rows) =
-    elim (is_open r) as (λ b. find p (map connection (cond b (r ∷ filter is_open rows) (filter is_open rows))) ≡ option_map connection (cond (b && p (connection r)) (Some r) (find (is_open_with p) rows))) [
-      | true ↦ elim (p (connection r)) as (λ b. cond b (Some (connection r)) (find p (map connection (filter is_open rows))) ≡ option_map connection (cond b (Some r) (find (is_open_with p) rows))) [ true ↦ refl | false ↦ find_open p rows ]
+    elim (is_open r) as (λ b. find p (map connection (cond b (r ∷ filter is_open rows) (filter is_open rows)))
+    ≡ option_map connection (cond (b && p (connection r)) (Some r) (find (is_open_with p) rows))) [
+      | true ↦ elim (p (connection r)) as (λ b. cond b (Some (connection r)) (find p (map connection (filter is_open rows)))
+          ≡ option_map connection (cond b (Some r) (find (is_open_with p) rows))) [ true ↦ refl | false ↦ find_open p rows ]
       | false ↦ find_open p rows
     ]
 
@@ -48,7 +52,8 @@ pub live_found : (l : Legality) (a : About) (H : List Entry) (p : Connection →
 live_found l a H p s = ap (find p) (live_rows l a H s) ∙ find_open p l.rows.items
 
 -- the live connections that a test of connections keeps, and a test of rows that agrees with one of connections
-pub meant_rows : (M P : Connection → Bool) (Q : Row → Bool) (rows : List Row) → ((r : Row) → Q r ≡ P (connection r)) → map number (filter (λ r. is_open r && (M (connection r) && Q r)) rows) ≡ numbers (filter P (filter M (map connection (filter is_open rows))))
+pub meant_rows : (M P : Connection → Bool) (Q : Row → Bool) (rows : List Row) → ((r : Row) → Q r ≡ P (connection r))
+    → map number (filter (λ r. is_open r && (M (connection r) && Q r)) rows) ≡ numbers (filter P (filter M (map connection (filter is_open rows))))
 meant_rows M P Q [] same = refl
 meant_rows M P Q (r ∷ rows) same =
     let rest = meant_rows M P Q rows same in
@@ -57,7 +62,11 @@ meant_rows M P Q (r ∷ rows) same =
     elim (is_open r) as (λ b. map number (cond (b && (M (connection r) && Q r)) (r ∷ F) F) ≡ numbers (filter P (filter M (map connection (cond b (r ∷ filter is_open rows) (filter is_open rows)))))) [
       | true ↦ elim (M (connection r)) as (λ b. map number (cond (b && Q r) (r ∷ F) F) ≡ numbers (filter P (cond b (connection r ∷ filter M L) (filter M L)))) [
         | true ↦ ap (λ (b : Bool). map number (cond b (r ∷ F) F)) (same r)
-            ∙ elim (P (connection r)) as (λ b. map number (cond b (r ∷ F) F) ≡ numbers (cond b (connection r ∷ filter P (filter M L)) (filter P (filter M L)))) [ true ↦ ap (λ (l : List ℕ). number r ∷ l) rest | false ↦ rest ]
+            ∙ elim (P (connection r)) as (λ b. map number (cond b (r ∷ F) F) ≡ numbers (cond b (connection r ∷ filter P (filter M L)) (filter P (filter M L)))) [
+              | true ↦ ap
+                  (λ (l : List ℕ). number r ∷ l) rest
+              | false ↦ rest
+            ]
         | false ↦ rest
       ]
       | false ↦ rest

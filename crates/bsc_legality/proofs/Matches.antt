@@ -1,4 +1,5 @@
 -- Numbers that are matched with those of elements that pass a test, from the front.
+-- It serves clauses of functions of `matching`.
 use Rattle.std.proofs.Common.{◌≡◌, ℕ, zero, suc, ◌+◌, ◌<◌, ◌≤◌, ◌==◌, Bool, true, false, ◌&&◌, cond, List, [], ◌∷◌, length, get_or, drop, drop-cons, map, filter, refl, ap, sym, ◌∙◌, arith}
 use Rattle.std.proofs.lemmas.List.{get_or_default}
 use Rattle.bsc_legality.specs.Deciding.{begins}
@@ -34,7 +35,8 @@ begins_within n zero (k ∷ ks) h = omega arith
 begins_within n (suc at) [] h = cc
 begins_within n (suc at) (k ∷ ks) h = let r = begins_within n at ks h in omega arith
 
-step : {A : Type 0} (f : A → ℕ) (p : A → Bool) (ks : List ℕ) (at : ℕ) (xs : List A) (i : ℕ) (x : A) → i < length xs → x ≡ get_or xs i x → (b : Bool) → p x ≡ b → matches f p ks at xs i ≡ cond b (begins (f x) (drop at ks) && matches f p ks (at + 1) xs (i + 1)) (matches f p ks at xs (i + 1))
+step : {A : Type 0} (f : A → ℕ) (p : A → Bool) (ks : List ℕ) (at : ℕ) (xs : List A) (i : ℕ) (x : A) → i < length xs → x ≡ get_or xs i x → (b : Bool) → p x ≡ b
+    → matches f p ks at xs i ≡ cond b (begins (f x) (drop at ks) && matches f p ks (at + 1) xs (i + 1)) (matches f p ks at xs (i + 1))
 step {A} f p ks at xs i x within is b pass =
     let F = filter p (drop (i + 1) xs) in
     ap (λ (l : List A). same_numbers (drop at ks) (map f (filter p l))) (next xs i x within is)
@@ -44,10 +46,12 @@ step {A} f p ks at xs i x within is b pass =
       | false ↦ refl
     ]
 
-pub passed_over : {A : Type 0} (f : A → ℕ) (p : A → Bool) (ks : List ℕ) (at : ℕ) (xs : List A) (i : ℕ) (x : A) → i < length xs → x ≡ get_or xs i x → p x ≡ false → Matches f p ks at xs i → Matches f p ks at xs (i + 1)
+pub passed_over : {A : Type 0} (f : A → ℕ) (p : A → Bool) (ks : List ℕ) (at : ℕ) (xs : List A) (i : ℕ) (x : A) → i < length xs → x ≡ get_or xs i x → p x ≡ false → Matches f p ks at xs i
+    → Matches f p ks at xs (i + 1)
 passed_over f p ks at xs i x within is pass m = record { within = m.within; so_far = m.so_far ∙ step f p ks at xs i x within is false pass }
 
-pub matched : {A : Type 0} (f : A → ℕ) (p : A → Bool) (ks : List ℕ) (at : ℕ) (xs : List A) (i : ℕ) (x : A) → i < length xs → x ≡ get_or xs i x → p x ≡ true → begins (f x) (drop at ks) ≡ true → Matches f p ks at xs i → Matches f p ks (at + 1) xs (i + 1)
+pub matched : {A : Type 0} (f : A → ℕ) (p : A → Bool) (ks : List ℕ) (at : ℕ) (xs : List A) (i : ℕ) (x : A) → i < length xs → x ≡ get_or xs i x → p x ≡ true → begins (f x) (drop at ks) ≡ true
+    → Matches f p ks at xs i → Matches f p ks (at + 1) xs (i + 1)
 matched f p ks at xs i x within is pass here m = record {
   within = begins_within (f x) at ks here;
   so_far = m.so_far ∙ step f p ks at xs i x within is true pass ∙ ap (λ (b : Bool). b && matches f p ks (at + 1) xs (i + 1)) here;
@@ -55,10 +59,12 @@ matched f p ks at xs i x within is pass here m = record {
 
 -- the same of what stands at the place
 
-pub passed_over_at : {A : Type 0} (f : A → ℕ) (p : A → Bool) (ks : List ℕ) (at : ℕ) (xs : List A) (i : ℕ) (d : A) → i < length xs → p (get_or xs i d) ≡ false → Matches f p ks at xs i → Matches f p ks at xs (i + 1)
+pub passed_over_at : {A : Type 0} (f : A → ℕ) (p : A → Bool) (ks : List ℕ) (at : ℕ) (xs : List A) (i : ℕ) (d : A) → i < length xs → p (get_or xs i d) ≡ false → Matches f p ks at xs i
+    → Matches f p ks at xs (i + 1)
 passed_over_at f p ks at xs i d within pass m = passed_over f p ks at xs i (get_or xs i d) within (get_or_default xs i d (get_or xs i d) within) pass m
 
-pub matched_at : {A : Type 0} (f : A → ℕ) (p : A → Bool) (ks : List ℕ) (at : ℕ) (xs : List A) (i : ℕ) (d : A) → i < length xs → p (get_or xs i d) ≡ true → begins (f (get_or xs i d)) (drop at ks) ≡ true → Matches f p ks at xs i → Matches f p ks (at + 1) xs (i + 1)
+pub matched_at : {A : Type 0} (f : A → ℕ) (p : A → Bool) (ks : List ℕ) (at : ℕ) (xs : List A) (i : ℕ) (d : A) → i < length xs → p (get_or xs i d) ≡ true
+    → begins (f (get_or xs i d)) (drop at ks) ≡ true → Matches f p ks at xs i → Matches f p ks (at + 1) xs (i + 1)
 matched_at f p ks at xs i d within pass here m = matched f p ks at xs i (get_or xs i d) within (get_or_default xs i d (get_or xs i d) within) pass here m
 
 -- what stands at a place of mapped elements

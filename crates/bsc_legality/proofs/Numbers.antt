@@ -1,4 +1,5 @@
 -- Rows in the order of their numbers, searched by a number.
+-- It serves clauses of functions of `changing`, `following`, `legality` and `rows`.
 use Rattle.std.proofs.Common.{◌≡◌, ◌≢◌, ◌<◌, ◌≤◌, ◌+◌, inl, inr, ℕ, zero, suc, nat_lt, Bool, true, false, cond, List, [], ◌∷◌, length, get_or, Some, None, Result, Ok, Err, refl, ap, sym, ◌∙◌, arith}
 use Rattle.std.specs.List.{AllByRecursion, list_all, position}
 use Rattle.std.specs.List.Sorted.{IsSearchInRange, IsBinarySearchResult, IsNonDecreasingBy}
@@ -48,7 +49,8 @@ other_number conn (r ∷ rows) none =
 
 pub at_place : (conn : ℕ) (rows : List Row) (i : ℕ) → rising rows ≡ true → i < length rows → ((d : Row) → (get_or rows i d).connection.number ≡ conn) → position (has_number conn) rows ≡ Some i
 at_place conn [] i rise within here = absurd (omega arith)
-at_place conn (r ∷ rows) zero rise within here = position-cons (has_number conn) r rows ∙ ap (λ (b : Bool). cond b (Some 0) (option_map (λ i. 1 + i) (position (has_number conn) rows))) (eq-eqb r.connection.number conn (here r))
+at_place conn (r ∷ rows) zero rise within here = position-cons (has_number conn) r rows
+    ∙ ap (λ (b : Bool). cond b (Some 0) (option_map (λ i. 1 + i) (position (has_number conn) rows))) (eq-eqb r.connection.number conn (here r))
 at_place conn (r ∷ rows) (suc i) rise within here =
     let less = rises_at (r ∷ rows) 0 (suc i) r rise (omega arith) within in
     let same = here r in
@@ -58,7 +60,8 @@ at_place conn (r ∷ rows) (suc i) rise within here =
     ∙ (let e : 1 + i ≡ suc i = omega arith in ap Some e)
 
 -- a search by a number ends at its first place
-pub searched : (conn : ℕ) (rows : List Row) (r : Result ℕ ℕ) → rising rows ≡ true → IsSearchInRange r (length rows) → IsBinarySearchResult (λ x. nat_cmp x.connection.number conn) rows r → result_ok r ≡ position (has_number conn) rows
+pub searched : (conn : ℕ) (rows : List Row) (r : Result ℕ ℕ) → rising rows ≡ true → IsSearchInRange r (length rows) → IsBinarySearchResult (λ x. nat_cmp x.connection.number conn) rows r
+    → result_ok r ≡ position (has_number conn) rows
 searched conn rows (Ok i) rise within equal = sym (at_place conn rows i rise within (λ d. ranked (get_or rows i d).connection.number conn _ (sym (equal d))))
 searched conn rows (Err i) rise within parts =
     let split = parts (comparisons_rise conn rows rise) in

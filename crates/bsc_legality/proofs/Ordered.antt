@@ -1,4 +1,5 @@
 -- The rows of a state that stands for a history are in order, and no two live ones have one address.
+-- It serves the clauses of `breach` and `entry`.
 use Rattle.std.proofs.Common.{◌≡◌, ◌<◌, true, List, [], ◌∷◌, map, refl, sym, subst}
 use Rattle.std.specs.List.{list_all, AllByRecursion}
 use Rattle.std.proofs.lemmas.Bool.{and_from, lt-ltb}

@@ -1,4 +1,5 @@
 -- Lists in an order, and connections that stand in the order of their numbers.
+-- It serves the clauses of `breach` and `entry`.
 use Rattle.std.proofs.Common.{◌≡◌, ◌<◌, Bool, true, false, not, cond, List, [], ◌∷◌, ◌++◌, filter, Option, Some, None, option_to_list, refl, arith, append-nil}
 use Rattle.std.specs.Bool.{⊤}
 use Rattle.std.specs.List.{AllByRecursion}
@@ -21,7 +22,8 @@ Rise (x ∷ xs) = AllByRecursion (λ (y : Connection). x.number < y.number) xs �
 
 rise-filter : (q : Connection → Bool) (xs : List Connection) → Rise xs → Rise (filter q xs)
 rise-filter q [] rise = tt
-rise-filter q (x ∷ xs) rise = let rest = rise-filter q xs rise.1 in elim (q x) as (λ b. Rise (cond b (x ∷ filter q xs) (filter q xs))) [ true ↦ (all-filter (λ (y : Connection). x.number < y.number) q xs rise.0, rest) | false ↦ rest ]
+rise-filter q (x ∷ xs) rise = let rest = rise-filter q xs rise.1 in elim
+    (q x) as (λ b. Rise (cond b (x ∷ filter q xs) (filter q xs))) [ true ↦ (all-filter (λ (y : Connection). x.number < y.number) q xs rise.0, rest) | false ↦ rest ]
 
 rise-push : (xs : List Connection) (y : Connection) → Rise xs → AllByRecursion (λ (x : Connection). x.number < y.number) xs → Rise (xs ++ y ∷ [])
 rise-push [] y rise all = (tt, tt)

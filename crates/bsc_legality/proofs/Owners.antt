@@ -1,4 +1,5 @@
 -- The row of a connection tells whose it is.
+-- It serves the clauses of `is_of`.
 use Rattle.std.proofs.Common.{◌≡◌, ℕ, ◌==◌, Bool, true, false, ◌&&◌, ◌||◌, cond, List, [], ◌∷◌, Some, refl, ap, sym, ◌∙◌}
 use Rattle.std.specs.List.{AllByRecursion}
 use Rattle.std.proofs.lemmas.Bool.{eqb-true}
@@ -18,7 +19,8 @@ is_by_row caller c (r ∷ rows) rise =
     let two = rising_parts r rows rise in
     let G = λ (b : Bool). is_by (cond b (Some r) (row_of rows c)) caller ≡ ((b && (r.connection.caller == caller)) || is_of_in rows caller c) in
     let by : (b : Bool) → has_number c r ≡ b → G b = λ b. elim b as (λ b. has_number c r ≡ b → G b) [
-      | true ↦ λ e. sym (ap (λ (b : Bool). (r.connection.caller == caller) || b) (none_of caller c rows (others c r rows (eqb-true r.connection.number c e) two.0)) ∙ or_false (r.connection.caller == caller))
+      | true ↦ λ e. sym (ap (λ (b : Bool). (r.connection.caller == caller) || b) (none_of caller c rows (others c r rows (eqb-true r.connection.number c e) two.0))
+          ∙ or_false (r.connection.caller == caller))
       | false ↦ λ e. is_by_row caller c rows two.1
     ] in
     by (has_number c r) refl

@@ -1,4 +1,5 @@
 -- The tests of sameness decide it.
+-- It serves clauses of functions of `breaching`, `laws` and `legality`.
 use Rattle.std.proofs.Common.{◌≡◌, ℕ, ◌==◌, true, ◌&&◌, List, Option, Some, None, refl, ap, sym, ◌∙◌}
 use Rattle.std.specs.Cmp.Lexicographic.{bytes_decides, same_text}
 use Rattle.std.proofs.lemmas.Bool.{and_parts, eq-eqb, eqb-true}

@@ -1,4 +1,5 @@
 -- Which condition the last entry of a history breaks, worked by hand: A, B and C have joined, and a message goes to B.
+-- No clause needs it: worked examples.
 use Rattle.std.proofs.Common.{◌≡◌, ℕ, List, [], ◌∷◌, ◌++◌, Some, None, refl, replicate}
 use Rattle.bsc_octets.specs.declared.identity.Identity.{Identity}
 use Rattle.bsc_history.specs.declared.limits.About.{About}
@@ -55,7 +56,8 @@ unfolding history_on_literals
 none = refl
 
 -- An outbox that holds two frames has two, of which none was taken.
-full : breach (hub_of 2 4503599627370496) (abc ++ entry (Forward 1 (to_b 4 2)) (look 2 0) (Appended 2) ∷ entry (Forward 1 (to_b 4 3)) (look 2 0) (Appended 2) ∷ []) (entry (Forward 1 (to_b 4 4)) (look 2 0) (Appended 2)) ≡ Some (Due (Closed 2))
+full : breach (hub_of 2 4503599627370496) (abc ++ entry (Forward 1 (to_b 4 2)) (look 2 0) (Appended 2) ∷ entry (Forward 1 (to_b 4 3)) (look 2 0) (Appended 2) ∷ [])
+    (entry (Forward 1 (to_b 4 4)) (look 2 0) (Appended 2)) ≡ Some (Due (Closed 2))
 unfolding history_on_literals
 full = refl
 

@@ -1,4 +1,5 @@
 -- Lemmas on Booleans that the kit lacks.
+-- It serves many crates above.
 use Rattle.std.proofs.Common.{true, ◌≡◌, ◌⊎◌, ⊎_elim, nat_lt, ◌||◌, ◌<◌, ℕ, false, Bool, refl, ◌&&◌, arith, suc, rules, not}
 use Rattle.std.proofs.lemmas.Bool.{lt-ltb, or_left as or_left-kit, or_right as or_right-kit}
 use Rattle.std.proofs.lemmas.Bool.Decides.{nat_tests}

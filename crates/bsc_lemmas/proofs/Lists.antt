@@ -1,8 +1,10 @@
 -- Lemmas on lists that the kit lacks.
+-- It serves many crates above.
 use Rattle.bsc_lemmas.proofs.Booleans.{above_zero}
 use Rattle.bsc_lemmas.proofs.Numbers.{below_both}
 use Rattle.bsc_lemmas.proofs.Options.{position_shifted as shifted, some_map, position_later as later, some_none}
-use Rattle.std.proofs.Common.{add-one, ◌≡◌, ◌∷◌, ◌+◌, take, ◌++◌, ◌∙◌, length, [], List, get_or, ◌<◌, ap, ℕ, nat_eq, Option, ◌-◌, MatchOption, Some, refl, false, ◌≢◌, None, true, sym, drop, Bool, cond, filter, not, suc, nat_lt, is_some, ◌||◌, arith, ◌≤◌, slice_get, subst, zero, set, ⊎_elim, inr, ◌⊎◌, inl, find}
+use Rattle.std.proofs.Common.{add-one, ◌≡◌, ◌∷◌, ◌+◌, take, ◌++◌, ◌∙◌, length, [], List, get_or, ◌<◌, ap, ℕ, nat_eq, Option, ◌-◌, MatchOption, Some, refl, false, ◌≢◌, None, true}
+use Rattle.std.proofs.Common.{sym, drop, Bool, cond, filter, not, suc, nat_lt, is_some, ◌||◌, arith, ◌≤◌, slice_get, subst, zero, set, ⊎_elim, inr, ◌⊎◌, inl, find}
 use Rattle.std.proofs.Math.Seq.{take-suc}
 use Rattle.std.proofs.lemmas.Bool.{false≢true, eqb-true, or_parts}
 use Rattle.std.proofs.lemmas.Bool.Decides.{Decides-eqb}
@@ -28,10 +30,13 @@ pub pointwise_turned : (s p : List ℕ) → pointwise nat_eq s p ≡ pointwise n
 pointwise_turned s p = (partial_equiv_from_equiv nat_list_eq_equiv).symm s p
 
 pub before-end : (r : Option (Bor (List ℕ))) (s p : List ℕ) →
-    MatchOption r (pointwise nat_eq (drop (length s - length p) s) p ≡ false) (λ x. (pointwise nat_eq (drop (length s - length p) s) p ≡ true) × (x.now ≡ take (length s - length p) s) × (length x.now + length p ≡ length s)) →
+    MatchOption r (pointwise nat_eq (drop (length s - length p) s) p ≡ false)
+    (λ x. (pointwise nat_eq (drop (length s - length p) s) p ≡ true) × (x.now ≡ take (length s - length p) s) × (length x.now + length p ≡ length s)) →
     MatchOption r ((front : List ℕ) → s ≢ front ++ p) (λ x. s ≡ x.now ++ p)
-before-end None s p h = λ front e. false≢true (sym h ∙ (pointwise_turned (drop (length s - length p) s) p ∙ (ends_is Decides-eqb s p (pointwise nat_eq p (drop (length s - length p) s)) refl).1 front e))
-before-end (Some x) s p h = (ends_is Decides-eqb s p (pointwise nat_eq p (drop (length s - length p) s)) refl).0 (pointwise_turned p (drop (length s - length p) s) ∙ h.0) ∙ ap (λ (y : List ℕ). y ++ p) (sym h.1)
+before-end None s p h = λ front e. false≢true (sym h ∙ (pointwise_turned (drop (length s - length p) s) p
+    ∙ (ends_is Decides-eqb s p (pointwise nat_eq p (drop (length s - length p) s)) refl).1 front e))
+before-end (Some x) s p h = (ends_is Decides-eqb s p (pointwise nat_eq p (drop (length s - length p) s)) refl).0 (pointwise_turned p (drop (length s - length p) s) ∙ h.0)
+    ∙ ap (λ (y : List ℕ). y ++ p) (sym h.1)
 
 pub all-filter : {A : Type 0} (P : A → Type 0) (q : A → Bool) (xs : List A) → AllByRecursion P xs → AllByRecursion P (filter q xs)
 all-filter P q [] all = tt
@@ -43,9 +48,11 @@ all-push P (x ∷ xs) y all one = (all.0, all-push P xs y all.1 one)
 
 pub position-cons : {X : Type 0} (p : X → Bool) (x : X) (xs : List X) → position p (x ∷ xs) ≡ cond (p x) (Some 0) (option_map (λ i. 1 + i) (position p xs))
 position-cons p x xs =
-    elim (p x) as (λ b. cond (nat_lt (cond (not b) (1 + position_or_len p xs) 0) (suc (length xs))) (Some (cond (not b) (1 + position_or_len p xs) 0)) None ≡ cond b (Some 0) (option_map (λ i. 1 + i) (position p xs))) [
+    elim (p x) as (λ b. cond (nat_lt (cond (not b) (1 + position_or_len p xs) 0) (suc (length xs))) (Some (cond (not b) (1 + position_or_len p xs) 0)) None
+    ≡ cond b (Some 0) (option_map (λ i. 1 + i) (position p xs))) [
       | true ↦ ap (λ (b : Bool). cond b (Some 0) None) (above_zero (length xs))
-      | false ↦ ap (λ (b : Bool). cond b (Some (1 + position_or_len p xs)) None) (below_both (position_or_len p xs) (length xs)) ∙ shifted (nat_lt (position_or_len p xs) (length xs)) (position_or_len p xs)
+      | false ↦ ap (λ (b : Bool). cond b (Some (1 + position_or_len p xs)) None) (below_both (position_or_len p xs) (length xs))
+          ∙ shifted (nat_lt (position_or_len p xs) (length xs)) (position_or_len p xs)
     ]
 
 -- where there is no place, none is found
@@ -59,7 +66,8 @@ position-none {A} p (x ∷ xs) h = by (p x) refl (position-none p xs)
 
     by : (b : Bool) → p x ≡ b → (position p xs ≡ None → find p xs ≡ None) → find p (x ∷ xs) ≡ None
     by true f rec = absurd (some_none 0 (sym (position-cons p x xs ∙ ap (λ (b : Bool). cond b (Some 0) (option_map (λ n. 1 + n) (position p xs))) f) ∙ h))
-    by false f rec = ap (λ (b : Bool). cond b (Some x) (find p xs)) f ∙ later rec (position p xs) refl (sym (position-cons p x xs ∙ ap (λ (b : Bool). cond b (Some 0) (option_map (λ n. 1 + n) (position p xs))) f) ∙ h)
+    by false f rec = ap (λ (b : Bool). cond b (Some x) (find p xs)) f ∙ later rec (position p xs) refl
+        (sym (position-cons p x xs ∙ ap (λ (b : Bool). cond b (Some 0) (option_map (λ n. 1 + n) (position p xs))) f) ∙ h)
 
 pub position_any : {X : Type 0} (p : X → Bool) (xs : List X) → is_some (position p xs) ≡ list_any p xs
 position_any p [] = refl
@@ -76,7 +84,8 @@ pub position_more : {X : Type 0} (p : X → Bool) (xs : List X) (y : X) → posi
 position_more p [] y = position_one p y
 position_more p (x ∷ xs) y =
     let rest = position_more p xs y in
-    position-cons p x (xs ++ y ∷ []) ∙ elim (p x) as (λ b. cond b (Some 0) (option_map (λ i. 1 + i) (position p (xs ++ y ∷ []))) ≡ option_or (cond b (Some 0) (option_map (λ i. 1 + i) (position p xs))) (cond (p y) (Some (suc (length xs))) None)) [
+    position-cons p x (xs ++ y ∷ []) ∙ elim (p x) as (λ b. cond b (Some 0) (option_map (λ i. 1 + i) (position p (xs ++ y ∷ [])))
+    ≡ option_or (cond b (Some 0) (option_map (λ i. 1 + i) (position p xs))) (cond (p y) (Some (suc (length xs))) None)) [
       | true ↦ refl
       | false ↦ ap (option_map (λ i. 1 + i)) rest ∙ later (position p xs) (p y) (length xs)
     ]

@@ -1,4 +1,5 @@
 -- Lemmas on numbers and results that the kit lacks.
+-- It serves many crates above.
 use Rattle.std.proofs.Common.{◌≡◌, ◌==◌, sym, ◌∙◌, inr, inl, ℕ, nat_lt, ◌+◌, arith, suc, ◌<◌, Err, Ok, IfOk, Result}
 use Rattle.std.proofs.lemmas.Bool.{cases_eq, ne_eqb, eq-eqb}
 use Rattle.std.proofs.lemmas.Bool.Decides.{nat_tests}

@@ -1,4 +1,5 @@
 -- Lemmas on options that the kit lacks.
+-- It serves many crates above.
 use Rattle.std.proofs.Common.{None, Option, ◌≡◌, Some, refl, unwrap_or, ℕ, is_some, false, true, ◌+◌, Bool, cond, arith, suc, ap, sym, ◌∙◌}
 use Rattle.std.specs.Option.{option_or, option_map}
 

@@ -1,4 +1,5 @@
 -- Texts put one behind the other.
+-- It serves the clauses of `put_counts` and `put_lists`.
 use Rattle.std.proofs.Common.{◌≡◌, ℕ, List, ◌++◌, ap, ◌∙◌, append_assoc, Result, Ok, Err}
 use Rattle.std.specs.Prelude.{IfOk, ⊤}
 use Rattle.bsc_octets.specs.declared.no_memory.NoMemory.{NoMemory}

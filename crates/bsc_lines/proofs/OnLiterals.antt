@@ -1,4 +1,5 @@
 -- What an answer unfolds to compute the lines of journals on literal entries and denials.
+-- It serves bsc_session_laws.
 use Rattle.std.specs.Prelude.{⊤}
 use Rattle.std.specs.Fmt.{digits}
 use Rattle.hex.specs.Hex.{encode_with}

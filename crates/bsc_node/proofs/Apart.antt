@@ -1,4 +1,5 @@
 -- No two established slots have one VMAC or one device, and no broadcast goes over a slot.
+-- It serves the clauses of `broadcasts_keep_off_slots` and `slots_keep_apart`.
 use Rattle.std.proofs.Common.{◌≡◌, ℕ, false, List, Option, Some, None, refl, ap, sym, ◌∙◌}
 use Rattle.bsc_octets.specs.declared.identity.Identity.{Identity}
 use Rattle.bsc_octets.specs.Addresses.{same_vmac, broadcast}

@@ -1,4 +1,5 @@
 -- Which steps of a machine are calm: they neither put an Encapsulated-NPDU, nor have a message for the node, nor name a peer, nor are a refusal.
+-- It serves clauses of functions of `laws`.
 use Rattle.std.proofs.Common.{◌≡◌, ℕ, Bool, true, false, not, cond, ◌&&◌, List, None, refl}
 use Rattle.bsc_octets.specs.Functions.{is_npdu}
 use Rattle.bsc_accept.specs.declared.start.Start.{Start}
@@ -54,7 +55,8 @@ calm-finish s E now id = calm_finish_by now id (standing E)
 
 -- ---- the machine of a link that was taken
 
-calm_if_taken : (h : Accepting.Standing) (e : Event) (b : Bool) (x y : Step) → is_calm (accepting_outcome h e x) ≡ true → is_calm (accepting_outcome h e y) ≡ true → is_calm (accepting_outcome h e (cond b x y)) ≡ true
+calm_if_taken : (h : Accepting.Standing) (e : Event) (b : Bool) (x y : Step) → is_calm (accepting_outcome h e x) ≡ true → is_calm (accepting_outcome h e y) ≡ true
+    → is_calm (accepting_outcome h e (cond b x y)) ≡ true
 calm_if_taken h e true x y p q = p
 calm_if_taken h e false x y p q = q
 

@@ -1,4 +1,5 @@
 -- Lemmas that crates above cite too.
+-- It serves the clauses of `broadcasts_keep_off_slots`, `draws_last` and `slots_keep_apart`.
 use Rattle.bsc_accept.specs.Messages.{duplicate_vmac_code}
 use Rattle.bsc_accept.specs.declared.event.Event.{Event}
 use Rattle.bsc_connector.proofs.BackLemmas.{since-more}
@@ -56,7 +57,8 @@ resolve_calls-kept L m h = filter-kept resolve_call_of L m h
 
 pub accepted-kept : (E : List InitEvent) (call : InitEvent) → request_at call ≡ None → ((id : ℕ) → accepts_by id call ≡ None) → who_accepted (E ++ call ∷ []) ≡ who_accepted E
 accepted-kept E call r n =
-    ap (λ (o : Option ℕ). option_and_then (λ id. first_of (accepts_by id) (E ++ call ∷ [])) o) (first_of-more request_at E call ∙ ap (λ (o : Option ℕ). option_or (request E) o) r ∙ or_last (request E)) ∙ by (request E)
+    ap (λ (o : Option ℕ). option_and_then (λ id. first_of (accepts_by id) (E ++ call ∷ [])) o)
+    (first_of-more request_at E call ∙ ap (λ (o : Option ℕ). option_or (request E) o) r ∙ or_last (request E)) ∙ by (request E)
   where
     by : (o : Option ℕ) → option_and_then (λ id. first_of (accepts_by id) (E ++ call ∷ [])) o ≡ option_and_then (λ id. first_of (accepts_by id) E) o
     by None = refl
@@ -89,4 +91,5 @@ word_awaited L e h w = by (brings_word e.event) w (third (nat_le (now L) e.now) 
 
 pub no_word_then : (T : ℕ) (L : Log) → T < 2 ^ 62 → now L ≡ T → awaits_word L ≡ true → IsTrue (may_come L (record { now = T; event = NoRandom }))
 no_word_then T L below is awaits =
-    all_four (nat_le (now L) T) (nat_lt T (2 ^ 62)) (if true then awaits_word L else not (awaits_word L)) true (le-leb (now L) T (subst (λ t. t ≤ T) (sym is) (omega arith))) (lt-ltb T (2 ^ 62) below) (the_word true (awaits_word L) refl awaits) refl
+    all_four (nat_le (now L) T) (nat_lt T (2 ^ 62)) (if true then awaits_word L else not (awaits_word L)) true (le-leb (now L) T (subst (λ t. t ≤ T) (sym is) (omega arith)))
+    (lt-ltb T (2 ^ 62) below) (the_word true (awaits_word L) refl awaits) refl

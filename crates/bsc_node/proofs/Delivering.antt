@@ -1,4 +1,5 @@
 -- A node delivers at most the one message that came.
+-- It serves the clauses of `delivers_what_came`.
 use Rattle.std.proofs.Common.{◌≡◌, ℕ, Bool, true, false, not, cond, inl, inr, List, [], ◌∷◌, ◌++◌, Option, Some, None, refl, ap, sym, ◌∙◌}
 use Rattle.std.specs.Prelude.{◌⊎◌, ◌==◌, IsTrue, filter, filter_map}
 use Rattle.std.specs.List.{list_all}
@@ -33,7 +34,8 @@ use Rattle.bsc_node.specs.declared.note.Note.TheVariants.{NoPath, TooLong}
 use Rattle.bsc_node.specs.declared.action.Action.{Action}
 use Rattle.bsc_node.specs.declared.action.Action.TheVariants.{Put, Close, Deliver}
 use Rattle.bsc_node.specs.Logs.{Made, Line, did, Log, Rule, nothing, either, with_some, does, tells, now, action_of}
-use Rattle.bsc_node.specs.Links.{was_taken, initiating_events, accepting_events, by_machine, hears, verdict, Outcome, puts, puts_and_closes, closes, meets, is_refused, passes_up, keeps_still, initiating_outcome, accepting_outcome, outcome}
+use Rattle.bsc_node.specs.Links.{was_taken, initiating_events, accepting_events, by_machine, hears, verdict, Outcome, puts, puts_and_closes, closes, meets, is_refused, passes_up}
+use Rattle.bsc_node.specs.Links.{keeps_still, initiating_outcome, accepting_outcome, outcome}
 use Rattle.bsc_node.specs.Ways.{way}
 use Rattle.bsc_node.specs.Ending.{ends, closes_link, carries_out_by}
 use Rattle.bsc_node.specs.Receiving.{sender, delivers, takes_body}
@@ -73,7 +75,8 @@ up_connected now m msg id body h = same_up m msg h
 up_passed : (now : ℕ) (m msg : Message) (g : Standing) → initiating_outcome (InitMessage now (Pass m)) (passed_step g m) ≡ passes_up msg → Pass m ≡ Pass msg
 up_passed now m msg awaiting_websocket h = cc
 up_passed now m msg (awaiting_accept id) h =
-    up_if (InitMessage now (Pass m)) msg (Pass m) (m.id == id) (answer_step (who_accepts m.body) (refusing_code m.body)) Nothing (up_answer (InitMessage now (Pass m)) msg (Pass m) (who_accepts m.body) (refusing_code m.body)) (λ n. cc) h
+    up_if (InitMessage now (Pass m)) msg (Pass m) (m.id == id) (answer_step (who_accepts m.body) (refusing_code m.body)) Nothing
+    (up_answer (InitMessage now (Pass m)) msg (Pass m) (who_accepts m.body) (refusing_code m.body)) (λ n. cc) h
 up_passed now m msg connected h = up_connected now m msg m.id m.body h
 up_passed now m msg (disconnecting f) h = up_if (InitMessage now (Pass m)) msg (Pass m) (is_farewell_answer f.id m) (InitClose normal) Nothing (λ n. cc) (λ n. cc) h
 
@@ -83,7 +86,8 @@ up_heard now (Carry envelope) msg g h = cc
 up_heard now (Silent check) msg g h = cc
 up_heard now (Nak check octets) msg g h = cc
 
-up_if_taken : (g : Accepting.Standing) (e : Event) (msg : Message) (v : Verdict) (b : Bool) (x y : Step) → (accepting_outcome g e x ≡ passes_up msg → v ≡ Pass msg) → (accepting_outcome g e y ≡ passes_up msg → v ≡ Pass msg)
+up_if_taken : (g : Accepting.Standing) (e : Event) (msg : Message) (v : Verdict) (b : Bool) (x y : Step) → (accepting_outcome g e x ≡ passes_up msg → v ≡ Pass msg)
+    → (accepting_outcome g e y ≡ passes_up msg → v ≡ Pass msg)
     → accepting_outcome g e (cond b x y) ≡ passes_up msg → v ≡ Pass msg
 up_if_taken g e msg v true x y p q h = p h
 up_if_taken g e msg v false x y p q h = q h
@@ -92,7 +96,8 @@ up_asked : (e : Event) (msg : Message) (v : Verdict) (who : Option Identity) →
 up_asked e msg v (Some who) h = cc
 up_asked e msg v None h = cc
 
-up_taken_connected : (now : ℕ) (m msg : Message) (id : ℕ) (body : Body) → accepting_outcome Accepting.connected (AcceptMessage now (Pass m)) (AcceptingSteps.connected_step id body) ≡ passes_up msg → Pass m ≡ Pass msg
+up_taken_connected : (now : ℕ) (m msg : Message) (id : ℕ) (body : Body)
+    → accepting_outcome Accepting.connected (AcceptMessage now (Pass m)) (AcceptingSteps.connected_step id body) ≡ passes_up msg → Pass m ≡ Pass msg
 up_taken_connected now m msg id HeartbeatRequest h = cc
 up_taken_connected now m msg id DisconnectRequest h = cc
 up_taken_connected now m msg id body h = same_up m msg h
@@ -100,7 +105,8 @@ up_taken_connected now m msg id body h = same_up m msg h
 up_taken_passed : (now : ℕ) (m msg : Message) (g : Accepting.Standing) → accepting_outcome g (AcceptMessage now (Pass m)) (AcceptingSteps.passed_step g m) ≡ passes_up msg → Pass m ≡ Pass msg
 up_taken_passed now m msg Accepting.awaiting_request h = up_asked (AcceptMessage now (Pass m)) msg (Pass m) (who_asks m.body) h
 up_taken_passed now m msg Accepting.connected h = up_taken_connected now m msg m.id m.body h
-up_taken_passed now m msg (Accepting.disconnecting f) h = up_if_taken (Accepting.disconnecting f) (AcceptMessage now (Pass m)) msg (Pass m) (is_farewell_answer f.id m) (StepClose normal) StepNothing (λ n. cc) (λ n. cc) h
+up_taken_passed now m msg (Accepting.disconnecting f) h = up_if_taken (Accepting.disconnecting f) (AcceptMessage now (Pass m)) msg (Pass m) (is_farewell_answer f.id m)
+    (StepClose normal) StepNothing (λ n. cc) (λ n. cc) h
 
 up_taken_heard : (now : ℕ) (v : Verdict) (msg : Message) (g : Accepting.Standing) → accepting_outcome g (AcceptMessage now v) (AcceptingSteps.message_step g v) ≡ passes_up msg → v ≡ Pass msg
 up_taken_heard now (Pass m) msg g h = up_taken_passed now m msg g h
@@ -161,7 +167,8 @@ none_delivered_by m lines h rest = rest
 
 none_delivered : (lines : List Line) → list_all delivers_none lines ≡ true → delivered_by lines ≡ []
 none_delivered [] h = refl
-none_delivered (m ∷ lines) h = none_delivered_by m lines (and_left (delivers_none m) (list_all delivers_none lines) h) (none_delivered lines (and_right (delivers_none m) (list_all delivers_none lines) h))
+none_delivered (m ∷ lines) h = none_delivered_by m lines (and_left (delivers_none m) (list_all delivers_none lines) h)
+    (none_delivered lines (and_right (delivers_none m) (list_all delivers_none lines) h))
 
 not_came : (a : Made) (L : Log) (e : TimedEvent) → IsTrue (may_come L e) → is_came e.event ≡ false → delivered_at a L e ≡ []
 not_came a L e h s =
@@ -184,8 +191,10 @@ none-obeys_by a name (is_refused origin code) h = pass-is_refused_by delivers_no
 none-obeys_by a name (passes_up msg) h = cc
 none-obeys_by a name keeps_still h = pass-nothing delivers_none
 
-by_sender : (a : Made) (L : Log) (e : TimedEvent) (name : LinkName) (o : List ℕ) (msg : Message) (npdu : List ℕ) → e.event ≡ Came name o → verdict a (with_event L e) name o ≡ Pass msg → msg.body ≡ Npdu npdu
-    → (v : Option Vmac) → sender name msg (with_heard a L e name o) ≡ v → delivered_at a L e ≡ delivered_by (with_some v (delivers msg npdu) nothing (with_heard a L e name o)) → (delivered_at a L e ≡ []) ⊎ IsDeliveredOnce a L e
+by_sender : (a : Made) (L : Log) (e : TimedEvent) (name : LinkName) (o : List ℕ) (msg : Message) (npdu : List ℕ) → e.event ≡ Came name o → verdict a (with_event L e) name o ≡ Pass msg
+    → msg.body ≡ Npdu npdu
+    → (v : Option Vmac) → sender name msg (with_heard a L e name o) ≡ v → delivered_at a L e ≡ delivered_by (with_some v (delivers msg npdu) nothing (with_heard a L e name o))
+    → (delivered_at a L e ≡ []) ⊎ IsDeliveredOnce a L e
 by_sender a L e name o msg npdu is passed body None s h = inl h
 by_sender a L e name o msg npdu is passed body (Some v) s h = inr (name, o, msg, npdu, v, is, passed, body, s, h)
 
@@ -195,13 +204,15 @@ by_body a L e name o msg is passed (Npdu npdu) b h = by_sender a L e name o msg 
 by_body a L e name o msg is passed body b h =
     inl (h ∙ none_delivered (takes_body a name msg body (with_heard a L e name o)) (none-quiet (takes_body a name msg body) (quiet-takes_body a name msg body refl) (with_heard a L e name o)))
 
-by_outcome : (a : Made) (L : Log) (e : TimedEvent) (name : LinkName) (o : List ℕ) → e.event ≡ Came name o → ((msg : Message) → outcome a (with_heard a L e name o) name ≡ passes_up msg → verdict a (with_event L e) name o ≡ Pass msg)
+by_outcome : (a : Made) (L : Log) (e : TimedEvent) (name : LinkName) (o : List ℕ) → e.event ≡ Came name o
+    → ((msg : Message) → outcome a (with_heard a L e name o) name ≡ passes_up msg → verdict a (with_event L e) name o ≡ Pass msg)
     → (u : Outcome) → outcome a (with_heard a L e name o) name ≡ u → delivered_at a L e ≡ delivered_by (obeys_by a name u (with_heard a L e name o)) → (delivered_at a L e ≡ []) ⊎ IsDeliveredOnce a L e
 by_outcome a L e name o is up (passes_up msg) u h = by_body a L e name o msg is (up msg u) msg.body refl h
 by_outcome a L e name o is up other u h = inl (h ∙ none_delivered (obeys_by a name other (with_heard a L e name o)) (none-obeys_by a name other refl (with_heard a L e name o)))
 
 -- what the machine is told delivers nothing
-machine_delivers : (b : Bool) (dialled : LinkName → InitEvent) (taken : LinkName → Event) (name : LinkName) (lines : List Line) → delivered_by (by_machine dialled taken name b ++ lines) ≡ delivered_by lines
+machine_delivers : (b : Bool) (dialled : LinkName → InitEvent) (taken : LinkName → Event) (name : LinkName) (lines : List Line)
+    → delivered_by (by_machine dialled taken name b ++ lines) ≡ delivered_by lines
 machine_delivers true dialled taken name lines = refl
 machine_delivers false dialled taken name lines = refl
 

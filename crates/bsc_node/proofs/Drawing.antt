@@ -1,4 +1,5 @@
 -- A word is drawn at most once at an event, and as the last of its actions.
+-- It serves the clauses of `draws_last`.
 use Rattle.std.proofs.Common.{◌≡◌, ℕ, Bool, true, false, not, ◌||◌, inl, inr, List, [], ◌∷◌, ◌++◌, Option, refl, ap, ◌∙◌}
 use Rattle.std.specs.Prelude.{◌⊎◌, IsTrue, filter_map}
 use Rattle.std.specs.List.{list_all, list_any}
@@ -88,7 +89,8 @@ none-obeys_by a name (is_refused origin code) h = cc
 none-obeys_by a name (passes_up msg) h = pass-takes_body draws_none messages a name msg msg.body
 none-obeys_by a name keeps_still h = pass-nothing draws_none
 
-machine_acts : (b : Bool) (dialled : LinkName → InitEvent) (taken : LinkName → Event) (name : LinkName) (lines : List Line) → filter_map action_of (by_machine dialled taken name b ++ lines) ≡ filter_map action_of lines
+machine_acts : (b : Bool) (dialled : LinkName → InitEvent) (taken : LinkName → Event) (name : LinkName) (lines : List Line)
+    → filter_map action_of (by_machine dialled taken name b ++ lines) ≡ filter_map action_of lines
 machine_acts true dialled taken name lines = refl
 machine_acts false dialled taken name lines = refl
 
@@ -98,7 +100,8 @@ came_acts a L e name o is =
     ap (filter_map action_of) (goes_on-is a L e)
     ∙ ap (λ (ev : NodeEvent). filter_map action_of (follows a ev (with_event L e))) is
     ∙ ap (filter_map action_of) (in_order-brought (hears a name o ∷ obeys a name ∷ []) (with_event L e))
-    ∙ machine_acts (was_taken name (with_event L e)) (λ n. InitMessage (now (with_event L e)) (verdict a (with_event L e) n o)) (λ n. AcceptMessage (now (with_event L e)) (verdict a (with_event L e) n o)) name (obeys a name (with_heard a L e name o) ++ [])
+    ∙ machine_acts (was_taken name (with_event L e)) (λ n. InitMessage (now (with_event L e)) (verdict a (with_event L e) n o))
+    (λ n. AcceptMessage (now (with_event L e)) (verdict a (with_event L e) n o)) name (obeys a name (with_heard a L e name o) ++ [])
     ∙ ap (filter_map action_of) (append-nil (obeys a name (with_heard a L e name o)))
 
 abbrev closed : LinkName → Log → Log
@@ -114,9 +117,11 @@ by_draw a L e name origin code N true h = inr (Close name normal ∷ told name o
 by_draw a L e name origin code N false h =
     inl (ap (list_any draws) h
     ∙ ap drawn_by (append-nil (ends a name (closed name N ++ did (told name origin code N) ∷ [])))
-    ∙ none_drawn (ends a name (closed name N ++ did (told name origin code N) ∷ [])) (lets-rule draws_none quiet_draws_none (ends a name) (quiet-ends a name) (closed name N ++ did (told name origin code N) ∷ [])))
+    ∙ none_drawn (ends a name (closed name N ++ did (told name origin code N) ∷ []))
+    (lets-rule draws_none quiet_draws_none (ends a name) (quiet-ends a name) (closed name N ++ did (told name origin code N) ∷ [])))
 
-by_outcome : (a : Made) (L : Log) (e : TimedEvent) (name : LinkName) (N : Log) (u : Outcome) → actions_at a L e ≡ filter_map action_of (obeys_by a name u N) → (list_any draws (actions_at a L e) ≡ false) ⊎ IsDrawnLast a L e
+by_outcome : (a : Made) (L : Log) (e : TimedEvent) (name : LinkName) (N : Log) (u : Outcome) → actions_at a L e ≡ filter_map action_of (obeys_by a name u N)
+    → (list_any draws (actions_at a L e) ≡ false) ⊎ IsDrawnLast a L e
 by_outcome a L e name N (is_refused origin code) h =
     by_draw a L e name origin code N (may_draw name code (closed name N ++ did (told name origin code N) ∷ []))
     (h ∙ ap (filter_map action_of) (in_order-brought (does (Close name normal) ∷ tells_refusal name origin code ∷ either (may_draw name code) (does Draw) (ends a name) ∷ []) N))

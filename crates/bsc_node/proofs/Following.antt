@@ -1,4 +1,5 @@
 -- What follows from an event, by a test that quiet lines pass.
+-- It serves clauses of functions of `laws`.
 use Rattle.std.proofs.Common.{◌≡◌, ℕ, Bool, true, false, not, ◌&&◌, List, [], ◌∷◌, ◌++◌, Some, refl, ap, sym, ◌∙◌}
 use Rattle.std.specs.Prelude.{IsTrue, nat_le, nat_lt, ◌^◌, if◌then◌else◌, unwrap_or}
 use Rattle.std.specs.List.{list_all}
@@ -44,14 +45,16 @@ the_last false q r s h = cc
 -- A link that opens was dialled.
 pub opened-dialled : (L : Log) (e : TimedEvent) (name : LinkName) → e.event ≡ Opened name → IsTrue (may_come L e) → was_taken name (with_event L e) ≡ false
 opened-dialled L e name is h = ap (λ o. unwrap_or o false) (newest_of-more (beginning_of name) L (came e))
-    ∙ the_middle (is_there name L) (was_taken name L) (not (has_opened name L)) (sym (ap (fits L) is) ∙ the_last (nat_le (now L) e.now) (nat_lt e.now (2 ^ 62)) (if brings_word e.event then awaits_word L else not (awaits_word L)) (fits L e.event) h)
+    ∙ the_middle (is_there name L) (was_taken name L) (not (has_opened name L))
+    (sym (ap (fits L) is) ∙ the_last (nat_le (now L) e.now) (nat_lt e.now (2 ^ 62)) (if brings_word e.event then awaits_word L else not (awaits_word L)) (fits L e.event) h)
 
 -- A link that opens puts its Connect-Request, and nothing else follows.
 pub quiet-opened : (a : Made) (name : LinkName) (M : Log) → was_taken name M ≡ false → list_all is_quiet (follows a (Opened name) M) ≡ true
 quiet-opened a name M h =
     pass-two-then is_quiet (opens name) (obeys a name) [] M refl
     (quiet-obeys a name (M ++ opens name M)
-    (ap is_calm (outcome-initiating a M name (InitOpened (now M) (next_id M)) h) ∙ calm-opened (start a (M ++ initiating name (InitOpened (now M) (next_id M)) ∷ []) name) (initiating_events M name) (now M) (next_id M))) tt
+    (ap is_calm (outcome-initiating a M name (InitOpened (now M) (next_id M)) h)
+    ∙ calm-opened (start a (M ++ initiating name (InitOpened (now M) (next_id M)) ∷ []) name) (initiating_events M name) (now M) (next_id M))) tt
 
 -- every event but a Send and a message
 abbrev pub is_send : NodeEvent → Bool

@@ -1,4 +1,5 @@
 -- What follows from a message, from what the user wants, and from the other events: which of it is quiet, and which is not.
+-- It serves clauses of functions of `laws`.
 use Rattle.std.proofs.Common.{◌≡◌, ℕ, Bool, true, false, not, ◌&&◌, List, [], ◌∷◌, ◌++◌, Option, Some, None, refl, ap, ◌∙◌}
 use Rattle.std.specs.Prelude.{◌==◌, map}
 use Rattle.std.specs.List.{list_all}
@@ -40,7 +41,8 @@ use Rattle.bsc_node.proofs.Order.{brought, in_order-brought}
 use Rattle.bsc_node.proofs.Passing.{Passes, PassEach, pass-brought, pass-in_order, pass-either, pass-nothing, pass-when, pass-found, pass-if, pass-some, pass-mapped, pass-each-append, pass-weaker}
 use Rattle.bsc_node.proofs.Told.{outcome-accepting}
 use Rattle.bsc_node.proofs.Calm.{is_calm, calm-joined, calm-duplicate}
-use Rattle.bsc_node.proofs.Quiet.{is_quiet, Quiet, quiet-two, quiet-machine, quiet-carries, calm-ticked, quiet-tells_connector, quiet-tells_finished, quiet-ends, quiet-closes_link, quiet-finishes_link}
+use Rattle.bsc_node.proofs.Quiet.{is_quiet, Quiet, quiet-two, quiet-machine, quiet-carries, calm-ticked, quiet-tells_connector, quiet-tells_finished, quiet-ends, quiet-closes_link}
+use Rattle.bsc_node.proofs.Quiet.{quiet-finishes_link}
 use Rattle.std.proofs.lemmas.Bool.{and_from as both}
 
 -- ---- tests that quiet lines pass
@@ -74,7 +76,8 @@ pass-after_up test lets a who replaced = (lets-rule test lets (tells (DirectUp w
 
 pass-comes_up : (test : Line → Bool) → LetsQuiet test → (a : Made) (k : ℕ) (who : Identity) (replaced : Option ℕ) → test (slot (Up k who)) ≡ true → Passes test (comes_up a k who replaced)
 pass-comes_up test lets a k who replaced up =
-    pass-in_order test (slots_see (Up k who) ∷ tells (DirectUp who.vmac) ∷ finishes_replaced a replaced ∷ []) ((λ L. both (test (slot (Up k who))) true up refl), pass-after_up test lets a who replaced)
+    pass-in_order test (slots_see (Up k who) ∷ tells (DirectUp who.vmac) ∷ finishes_replaced a replaced ∷ [])
+    ((λ L. both (test (slot (Up k who))) true up refl), pass-after_up test lets a who replaced)
 
 pass-meets_dialled : (test : Line → Bool) → LetsQuiet test → (a : Made) (k : ℕ) (who : Identity) (e : Establish) → test (slot (Up k who)) ≡ true → Passes test (meets_dialled a k who e)
 pass-meets_dialled test lets a k who (IsUp replaced) up = pass-comes_up test lets a k who replaced up
@@ -92,12 +95,14 @@ calm_refuses a k L h =
     ap is_calm (outcome-accepting a L (Direct k) (RefusedEvent (DuplicateRefusal None)) h)
     ∙ calm-duplicate (start a (L ++ accepting (Direct k) (RefusedEvent (DuplicateRefusal None)) ∷ []) (Direct k)) (accepting_events L (Direct k))
 
-pub pass-refused : (test : Line → Bool) → LetsQuiet test → (a : Made) (k : ℕ) (L : Log) → was_taken (Direct k) L ≡ true → list_all test (in_order (refuses (Direct k) ∷ carries_out a (Direct k) ∷ ends a (Direct k) ∷ []) L) ≡ true
+pub pass-refused : (test : Line → Bool) → LetsQuiet test → (a : Made) (k : ℕ) (L : Log) → was_taken (Direct k) L ≡ true
+    → list_all test (in_order (refuses (Direct k) ∷ carries_out a (Direct k) ∷ ends a (Direct k) ∷ []) L) ≡ true
 pass-refused test lets a k L h =
     pass-two-then test (refuses (Direct k)) (carries_out a (Direct k)) (ends a (Direct k) ∷ []) L (lets-rule test lets (refuses (Direct k)) (λ M. refl) L)
     (pass-carries test lets a k (L ++ refuses (Direct k) L) (calm_refuses a k L h)) (lets-rule test lets (ends a (Direct k)) (quiet-ends a (Direct k)), tt)
 
-pass-taken : (test : Line → Bool) → LetsQuiet test → (a : Made) (k : ℕ) (who : Identity) (e : Establish) (L : Log) → test (slot (Up k who)) ≡ true → was_taken (Direct k) L ≡ true → list_all test (meets_taken a k who e L) ≡ true
+pass-taken : (test : Line → Bool) → LetsQuiet test → (a : Made) (k : ℕ) (who : Identity) (e : Establish) (L : Log) → test (slot (Up k who)) ≡ true → was_taken (Direct k) L ≡ true
+    → list_all test (meets_taken a k who e L) ≡ true
 pass-taken test lets a k who (IsUp replaced) L up h =
     pass-two-then test (joins (Direct k)) (carries_out a (Direct k)) (comes_up a k who replaced ∷ []) L (lets-rule test lets (joins (Direct k)) (λ M. refl) L)
     (pass-carries test lets a k (L ++ joins (Direct k) L) (calm_joins a k L h)) (pass-comes_up test lets a k who replaced up, tt)
@@ -105,7 +110,8 @@ pass-taken test lets a k who (Duplicate holder) L up h = pass-refused test lets 
 pass-taken test lets a k who (WrongPeer v) L up h = pass-refused test lets a k L h
 
 -- whatever the slots answer
-pub pass-meets : (test : Line → Bool) → LetsQuiet test → (a : Made) (k : ℕ) (who : Identity) (e : Establish) → test (slot (Up k who)) ≡ true → Passes test (either (was_taken (Direct k)) (meets_taken a k who e) (meets_dialled a k who e))
+pub pass-meets : (test : Line → Bool) → LetsQuiet test → (a : Made) (k : ℕ) (who : Identity) (e : Establish) → test (slot (Up k who)) ≡ true
+    → Passes test (either (was_taken (Direct k)) (meets_taken a k who e) (meets_dialled a k who e))
 pass-meets test lets a k who e up L = by (was_taken (Direct k) L) refl
   where
     by : (b : Bool) → was_taken (Direct k) L ≡ b → list_all test (if_so b (meets_taken a k who e) (meets_dialled a k who e) L) ≡ true
@@ -117,14 +123,16 @@ pass-meets_direct test lets a k who up =
     pass-either test (awaits_peer k) (meets_slot a k who) (closes_link a (Direct k) wrong_peer) (λ L. pass-meets test lets a k who (establish a k who L) up L)
     (lets-rule test lets (closes_link a (Direct k) wrong_peer) (quiet-closes_link a (Direct k) wrong_peer))
 
-pub pass-meets_peer : (test : Line → Bool) → LetsQuiet test → ((k : ℕ) (who : Identity) → test (slot (Up k who)) ≡ true) → (a : Made) (name : LinkName) (who : Identity) → Passes test (meets_peer a name who)
+pub pass-meets_peer : (test : Line → Bool) → LetsQuiet test → ((k : ℕ) (who : Identity) → test (slot (Up k who)) ≡ true) → (a : Made) (name : LinkName) (who : Identity)
+    → Passes test (meets_peer a name who)
 pass-meets_peer test lets up a (Hub s) who =
     pass-when test (is_under_way a s) (tells_connector a (ConnectorConnected s)) (lets-rule test lets (tells_connector a (ConnectorConnected s)) (quiet-tells_connector a (ConnectorConnected s)))
 pass-meets_peer test lets up a (Direct k) who = pass-meets_direct test lets a k who (up k who)
 
 -- ---- a refusal: all is quiet but that a word is drawn
 
-pub pass-is_refused_by : (test : Line → Bool) → LetsQuiet test → test (did Draw) ≡ true → (a : Made) (name : LinkName) (origin : Option Vmac) (code : ℕ) → Passes test (is_refused_by a name origin code)
+pub pass-is_refused_by : (test : Line → Bool) → LetsQuiet test → test (did Draw) ≡ true → (a : Made) (name : LinkName) (origin : Option Vmac) (code : ℕ)
+    → Passes test (is_refused_by a name origin code)
 pass-is_refused_by test lets draw a name origin code =
     pass-in_order test (does (Close name normal) ∷ tells_refusal name origin code ∷ either (may_draw name code) (does Draw) (ends a name) ∷ []) (
       lets-rule test lets (does (Close name normal)) (λ L. refl),
@@ -192,15 +200,18 @@ quiet-solicits v = quiet-by_path v (λ w. puts_own w AdvertisementSolicitation) 
 pass-dials_first : (test : Line → Bool) → LetsQuiet test → (v : Vmac) (k : ℕ) (uris : List (List ℕ)) → ((uri : List ℕ) → test (did (Dial (Direct k) uri)) ≡ true) → Passes test (dials_first v k uris)
 pass-dials_first test lets v k [] dial = lets-rule test lets (tells (NoDirect v)) (λ L. refl)
 pass-dials_first test lets v k (uri ∷ uris) dial =
-    pass-in_order test (slots_see (Claim k (Some v)) ∷ does (Dial (Direct k) uri) ∷ []) (lets-rule test lets (slots_see (Claim k (Some v))) (λ L. refl), ((λ L. both (test (did (Dial (Direct k) uri))) true (dial uri) refl), tt))
+    pass-in_order test (slots_see (Claim k (Some v)) ∷ does (Dial (Direct k) uri) ∷ [])
+    (lets-rule test lets (slots_see (Claim k (Some v))) (λ L. refl), ((λ L. both (test (did (Dial (Direct k) uri))) true (dial uri) refl), tt))
 
 -- a rule of what is found, where it is known what is found
-pass-some-is : {A : Type 0} (test : Line → Bool) (o : Option A) (rule : A → Rule) (other : Rule) (L : Log) → ((x : A) → o ≡ Some x → list_all test (rule x L) ≡ true) → list_all test (other L) ≡ true → list_all test (with_some o rule other L) ≡ true
+pass-some-is : {A : Type 0} (test : Line → Bool) (o : Option A) (rule : A → Rule) (other : Rule) (L : Log) → ((x : A) → o ≡ Some x → list_all test (rule x L) ≡ true)
+    → list_all test (other L) ≡ true → list_all test (with_some o rule other L) ≡ true
 pass-some-is test (Some x) rule other L p q = p x refl
 pass-some-is test None rule other L p q = q
 
 -- slots are claimed and dialled that were found free
-pub pass-directs : (test : Line → Bool) → LetsQuiet test → (v : Vmac) (L : Log) → ((k : ℕ) → free_slot L ≡ Some k → (uri : List ℕ) → test (did (Dial (Direct k) uri)) ≡ true) → list_all test (directs v L) ≡ true
+pub pass-directs : (test : Line → Bool) → LetsQuiet test → (v : Vmac) (L : Log) → ((k : ℕ) → free_slot L ≡ Some k → (uri : List ℕ) → test (did (Dial (Direct k) uri)) ≡ true)
+    → list_all test (directs v L) ≡ true
 pass-directs test lets v L dial =
     pass-some-is test (established v L) (λ k. nothing) (where_found (learnt v) (λ text. where_found free_slot (λ k M. dials_first v k (uris_to_dial v M) M) (tells SlotsFull)) (tells (NoUris v))) L
     (λ k is. refl)
@@ -213,7 +224,8 @@ pass-directs test lets v L dial =
 
 pub quiet-obeys_by : (a : Made) (name : LinkName) (o : Outcome) → is_calm o ≡ true → Quiet (obeys_by a name o)
 quiet-obeys_by a name (puts o) h = quiet-carries name (puts o) h
-quiet-obeys_by a name (puts_and_closes o closing) h = pass-in_order is_quiet (carries_out_by name (puts_and_closes o closing) ∷ ends a name ∷ []) (quiet-carries name (puts_and_closes o closing) h, (quiet-ends a name, tt))
+quiet-obeys_by a name (puts_and_closes o closing) h = pass-in_order is_quiet (carries_out_by name (puts_and_closes o closing) ∷ ends a name ∷ [])
+    (quiet-carries name (puts_and_closes o closing) h, (quiet-ends a name, tt))
 quiet-obeys_by a name (closes closing) h = quiet-closes_link a name closing
 quiet-obeys_by a name (meets who) h = cc
 quiet-obeys_by a name (is_refused origin code) h = cc
@@ -223,17 +235,21 @@ quiet-obeys_by a name keeps_still h = pass-nothing is_quiet
 pub quiet-obeys : (a : Made) (name : LinkName) (L : Log) → is_calm (outcome a L name) ≡ true → list_all is_quiet (obeys a name L) ≡ true
 quiet-obeys a name L h = quiet-obeys_by a name (outcome a L name) h L
 
-pub pass-dial_fails : (test : Line → Bool) → LetsQuiet test → (a : Made) (name : LinkName) → ((k : ℕ) → name ≡ Direct k → (uri : List ℕ) → test (did (Dial (Direct k) uri)) ≡ true) → Passes test (dial_fails a name)
+pub pass-dial_fails : (test : Line → Bool) → LetsQuiet test → (a : Made) (name : LinkName) → ((k : ℕ) → name ≡ Direct k → (uri : List ℕ) → test (did (Dial (Direct k) uri)) ≡ true)
+    → Passes test (dial_fails a name)
 pass-dial_fails test lets a (Hub s) dial = lets-rule test lets (ends a (Hub s)) (quiet-ends a (Hub s))
 pass-dial_fails test lets a (Direct k) dial =
     pass-found test (next_uri k) (λ uri. does (Dial (Direct k) uri)) (in_order (where_found (wanted k) (λ v. tells (NoDirect v)) nothing ∷ ends a (Direct k) ∷ []))
     (λ uri L. both (test (did (Dial (Direct k) uri))) true (dial k refl uri) refl)
-    (pass-in_order test (where_found (wanted k) (λ v. tells (NoDirect v)) nothing ∷ ends a (Direct k) ∷ [])
-    (pass-found test (wanted k) (λ v. tells (NoDirect v)) nothing (λ v. lets-rule test lets (tells (NoDirect v)) (λ L. refl)) (pass-nothing test), (lets-rule test lets (ends a (Direct k)) (quiet-ends a (Direct k)), tt)))
+    (pass-in_order test (where_found (wanted k) (λ v. tells (NoDirect v)) nothing ∷ ends a (Direct k) ∷ []) (
+      pass-found test (wanted k) (λ v. tells (NoDirect v)) nothing (λ v. lets-rule test lets (tells (NoDirect v)) (λ L. refl)) (pass-nothing test),
+      (lets-rule test lets (ends a (Direct k)) (quiet-ends a (Direct k)), tt),
+    ))
 
 pass-takes : (test : Line → Bool) → LetsQuiet test → (k : ℕ) → test (did (Take (Direct k))) ≡ true → Passes test (in_order (slots_see (Claim k None) ∷ does (Take (Direct k)) ∷ []))
 pass-takes test lets k take =
-    pass-in_order test (slots_see (Claim k None) ∷ does (Take (Direct k)) ∷ []) (lets-rule test lets (slots_see (Claim k None)) (λ L. refl), ((λ L. both (test (did (Take (Direct k)))) true take refl), tt))
+    pass-in_order test (slots_see (Claim k None) ∷ does (Take (Direct k)) ∷ [])
+    (lets-rule test lets (slots_see (Claim k None)) (λ L. refl), ((λ L. both (test (did (Take (Direct k)))) true take refl), tt))
 
 pub pass-arrives : (test : Line → Bool) → LetsQuiet test → (L : Log) → ((k : ℕ) → free_slot L ≡ Some k → test (did (Take (Direct k))) ≡ true) → list_all test (arrives L) ≡ true
 pass-arrives test lets L take =

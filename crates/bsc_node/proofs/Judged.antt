@@ -1,4 +1,5 @@
 -- Who names itself in a message that passed has no broadcast address.
+-- It serves the clauses of `broadcasts_keep_off_slots`, `draws_last` and `slots_keep_apart`.
 use Rattle.std.proofs.Common.{◌≡◌, ℕ, zero, suc, Bool, true, false, not, cond, ◌&&◌, ◌||◌, List, [], ◌∷◌, ◌++◌, drop, Option, Some, None, refl, ap, sym, ◌∙◌}
 use Rattle.std.specs.Prelude.{◌==◌, is_none, if◌then◌else◌}
 use Rattle.std.specs.List.{list_all}
@@ -66,7 +67,8 @@ none_fails : (test : Check → Bool) (checks : List Check) → first_failing tes
 none_fails test [] h = refl
 none_fails test (check ∷ rest) h = by (test check) (none_fails test rest) h
   where
-    by : (b : Bool) → (first_failing test rest ≡ None → list_all (λ k. not (test k)) rest ≡ true) → elim b as (λ (x : Bool). Option Check) [ true ↦ Some check | false ↦ first_failing test rest ] ≡ None → (not b && list_all (λ k. not (test k)) rest) ≡ true
+    by : (b : Bool) → (first_failing test rest ≡ None → list_all (λ k. not (test k)) rest ≡ true)
+        → elim b as (λ (x : Bool). Option Check) [ true ↦ Some check | false ↦ first_failing test rest ] ≡ None → (not b && list_all (λ k. not (test k)) rest) ≡ true
     by true later g = cc
     by false later g = later g
 
@@ -78,7 +80,8 @@ all_drop test (suc n) (check ∷ rest) h = all_drop test n rest (and_right (test
 all_here : (test : Check → Bool) (n : ℕ) (checks : List Check) (check : Check) (rest : List Check) → drop n checks ≡ check ∷ rest → list_all test checks ≡ true → test check ≡ true
 all_here test n checks check rest d h = and_left (test check) (list_all test rest) (ap (list_all test) (sym d) ∙ all_drop test n checks h)
 
-all_pass : (m : List ℕ) (place : Place) (max : ℕ) (msg : Message) → Passed m place (first_failing (fails m place max) (checks_of place m)) msg → list_all (λ k. not (fails m place max k)) (head_checks ++ later_checks ++ C13 ∷ []) ≡ true
+all_pass : (m : List ℕ) (place : Place) (max : ℕ) (msg : Message) → Passed m place (first_failing (fails m place max) (checks_of place m)) msg
+    → list_all (λ k. not (fails m place max k)) (head_checks ++ later_checks ++ C13 ∷ []) ≡ true
 all_pass m place max msg p =
     ap (λ (b : Bool). list_all (λ k. not (fails m place max k)) (head_checks ++ (if b then [] else later_checks) ++ C13 ∷ [])) (sym p.not_carried)
     ∙ none_fails (fails m place max) (checks_of place m) p.none
@@ -89,13 +92,15 @@ unicast_by : (p : List ℕ) (who : Identity) (b z : Bool) → b ≡ true → (b 
 unicast_by p who true z e h n = ap (λ (w : Identity). same_vmac w.vmac broadcast) (sym (some_same (identity_of p) who n)) ∙ or_right z (same_vmac (vmac_at p 0) broadcast) h
 unicast_by p who false z e h n = cc
 
-named_if : (who : Identity) (b : Bool) (x y : Body) → (b ≡ true → names x ≡ Some who → same_vmac who.vmac broadcast ≡ false) → (names y ≡ Some who → same_vmac who.vmac broadcast ≡ false) → names (cond b x y) ≡ Some who → same_vmac who.vmac broadcast ≡ false
+named_if : (who : Identity) (b : Bool) (x y : Body) → (b ≡ true → names x ≡ Some who → same_vmac who.vmac broadcast ≡ false) → (names y ≡ Some who → same_vmac who.vmac broadcast ≡ false)
+    → names (cond b x y) ≡ Some who → same_vmac who.vmac broadcast ≡ false
 named_if who true x y f g h = f refl h
 named_if who false x y f g h = g h
 
 named_in : (f : ℕ) (p : List ℕ) (who : Identity) → has_no_nodes_vmac f p ≡ false → names (body_in f p) ≡ Some who → same_vmac who.vmac broadcast ≡ false
 named_in f p who h n =
-    named_if who (f == 0x00) _ _ (λ e g. cc) (named_if who (f == 0x01) _ _ (λ e g. cc) (named_if who (f == 0x02) _ _ (λ e g. cc) (named_if who (f == 0x03) _ _ (λ e g. cc) (named_if who (f == 0x04) _ _ (λ e g. cc) (named_if who (f == 0x05) _ _ (λ e g. cc)
+    named_if who (f == 0x00) _ _ (λ e g. cc) (named_if who (f == 0x01) _ _ (λ e g. cc)
+    (named_if who (f == 0x02) _ _ (λ e g. cc) (named_if who (f == 0x03) _ _ (λ e g. cc) (named_if who (f == 0x04) _ _ (λ e g. cc) (named_if who (f == 0x05) _ _ (λ e g. cc)
     (named_if who (f == 0x06) _ _ (λ e g. unicast_by p who ((f == 0x06) || (f == 0x07)) (same_vmac (vmac_at p 0) zero_vmac) (first_or (f == 0x06) (f == 0x07) e) h g)
     (named_if who (f == 0x07) _ _ (λ e g. unicast_by p who ((f == 0x06) || (f == 0x07)) (same_vmac (vmac_at p 0) zero_vmac) (second_or (f == 0x06) (f == 0x07) e) h g)
     (named_if who (f == 0x08) _ _ (λ e g. cc) (named_if who (f == 0x09) _ _ (λ e g. cc) (named_if who (f == 0x0A) _ _ (λ e g. cc) (named_if who (f == 0x0B) _ _ (λ e g. cc) (λ g. cc)))))))))))) n
@@ -108,7 +113,8 @@ named_found f (Some found) who some h n =
     (or_right (has_unknown_status f found.rest) (has_unknown_accepts f found.rest || has_no_nodes_vmac f found.rest)
     (or_right (has_bad_uris f found.rest) (has_unknown_status f found.rest || (has_unknown_accepts f found.rest || has_no_nodes_vmac f found.rest))
     (or_right (has_bad_details f found.rest) (has_bad_uris f found.rest || (has_unknown_status f found.rest || (has_unknown_accepts f found.rest || has_no_nodes_vmac f found.rest)))
-    (or_right (has_unknown_result f found.rest) (has_bad_details f found.rest || (has_bad_uris f found.rest || (has_unknown_status f found.rest || (has_unknown_accepts f found.rest || has_no_nodes_vmac f found.rest)))) h))))) n
+    (or_right (has_unknown_result f found.rest)
+    (has_bad_details f found.rest || (has_bad_uris f found.rest || (has_unknown_status f found.rest || (has_unknown_accepts f found.rest || has_no_nodes_vmac f found.rest)))) h))))) n
 
 -- Who names itself in a message that passed has no broadcast address.
 pub named-unicast : (m : List ℕ) (place : Place) (max : ℕ) (msg : Message) (who : Identity) → outcome_of m place max ≡ Pass msg → names msg.body ≡ Some who → same_vmac who.vmac broadcast ≡ false

@@ -1,4 +1,5 @@
 -- What holds of the slots after every event: they are fine, and links begin only under the names of slots.
+-- It serves the clauses of `broadcasts_keep_off_slots`, `draws_last` and `slots_keep_apart`.
 use Rattle.std.proofs.Common.{◌≡◌, ℕ, Bool, true, false, not, cond, ◌&&◌, ◌||◌, List, [], ◌∷◌, ◌++◌, find, Some, None, refl, ap, sym, ◌∙◌, subst, arith}
 use Rattle.std.specs.Prelude.{◌^◌, ◌==◌, IsTrue, fold, filter_map, nat_le, nat_lt, if◌then◌else◌, is_some}
 use Rattle.std.specs.List.{list_all, list_any}
@@ -29,7 +30,8 @@ use Rattle.bsc_node.specs.declared.action.Action.TheVariants.{Dial, Take, Put, C
 use Rattle.bsc_node.specs.declared.delivered.Delivered.{Delivered}
 use Rattle.bsc_node.specs.declared.note.Note.TheVariants.{NoPath, TooLong}
 use Rattle.bsc_node.specs.Logs.{Made, Line, came, did, Log, nothing, either, does, tells, now}
-use Rattle.bsc_node.specs.Links.{begins, is_over_by, life, is_there, was_taken, by_machine, hears, verdict, Outcome, puts, puts_and_closes, closes, meets, is_refused, passes_up, keeps_still, outcome, is_in_slots, begins_in_slots}
+use Rattle.bsc_node.specs.Links.{begins, is_over_by, life, is_there, was_taken, by_machine, hears, verdict, Outcome, puts, puts_and_closes, closes, meets, is_refused, passes_up}
+use Rattle.bsc_node.specs.Links.{keeps_still, outcome, is_in_slots, begins_in_slots}
 use Rattle.bsc_node.specs.Hubs.{is_under_way}
 use Rattle.bsc_node.specs.Ways.{way, slot_call_of, slot_calls, free_slot}
 use Rattle.bsc_node.specs.Ending.{carries_out_by, tells_connector, ends, closes_link}
@@ -146,7 +148,8 @@ pass-takes_body test lets a name msg body = lets-rule test lets.quiet (takes_bod
 pub pass-sends : (test : Line → Bool) → LetsMessages test → (v : Vmac) (npdu : List ℕ) → Passes test (sends v npdu)
 pass-sends test lets v npdu =
     pass-found test (way v) (λ w. either (other_end_takes w npdu) (puts_own w (Npdu npdu)) (tells (TooLong v))) (tells (NoPath v))
-    (λ w. pass-either test (other_end_takes w npdu) (puts_own w (Npdu npdu)) (tells (TooLong v)) (λ L. both (test (did (Put w.link (own_message w (Npdu npdu) L)))) true (lets.put w.link (own_message w (Npdu npdu) L)) refl)
+    (λ w. pass-either test (other_end_takes w npdu) (puts_own w (Npdu npdu)) (tells (TooLong v))
+    (λ L. both (test (did (Put w.link (own_message w (Npdu npdu) L)))) true (lets.put w.link (own_message w (Npdu npdu) L)) refl)
     (lets-rule test lets.quiet (tells (TooLong v)) (λ L. refl)))
     (lets-rule test lets.quiet (tells (NoPath v)) (λ L. refl))
 
@@ -156,8 +159,10 @@ pass-puts test lets name o L = both (test (did (Put name o))) true (lets.put nam
 pass-obeys_by : (test : Line → Bool) → LetsMessages test → test (did Draw) ≡ true → (a : Made) (name : LinkName) (o : Outcome) → meets_slot name o ≡ false → Passes test (obeys_by a name o)
 pass-obeys_by test lets draw a name (puts o) h = pass-puts test lets name o
 pass-obeys_by test lets draw a name (puts_and_closes o closing) h =
-    pass-in_order test (carries_out_by name (puts_and_closes o closing) ∷ ends a name ∷ [])
-    (pass-in_order test (does (Put name o) ∷ does (Close name closing) ∷ []) (pass-puts test lets name o, (lets-rule test lets.quiet (does (Close name closing)) (λ L. refl), tt)), (lets-rule test lets.quiet (ends a name) (quiet-ends a name), tt))
+    pass-in_order test (carries_out_by name (puts_and_closes o closing) ∷ ends a name ∷ []) (
+      pass-in_order test (does (Put name o) ∷ does (Close name closing) ∷ []) (pass-puts test lets name o, (lets-rule test lets.quiet (does (Close name closing)) (λ L. refl), tt)),
+      (lets-rule test lets.quiet (ends a name) (quiet-ends a name), tt),
+    )
 pass-obeys_by test lets draw a name (closes closing) h = lets-rule test lets.quiet (closes_link a name closing) (quiet-closes_link a name closing)
 pass-obeys_by test lets draw a (Hub s) (meets who) h =
     pass-when test (is_under_way a s) (tells_connector a (Connected s)) (lets-rule test lets.quiet (tells_connector a (Connected s)) (quiet-tells_connector a (Connected s)))
@@ -169,7 +174,8 @@ pass-obeys_by test lets draw a name keeps_still h = pass-nothing test
 -- ---- a message that came
 
 -- what the machine is told is told to no slot
-machine_calls : (b : Bool) (dialled : LinkName → InitEvent) (taken : LinkName → Event) (name : LinkName) (lines : List Line) → filter_map slot_call_of (by_machine dialled taken name b ++ lines) ≡ filter_map slot_call_of lines
+machine_calls : (b : Bool) (dialled : LinkName → InitEvent) (taken : LinkName → Event) (name : LinkName) (lines : List Line)
+    → filter_map slot_call_of (by_machine dialled taken name b ++ lines) ≡ filter_map slot_call_of lines
 machine_calls true dialled taken name lines = refl
 machine_calls false dialled taken name lines = refl
 
@@ -188,12 +194,14 @@ came_calls a name o M =
     ∙ hears_calls a name o M (obeys a name (M ++ hears a name o M) ++ [])
     ∙ ap (filter_map slot_call_of) (append-nil (obeys a name (M ++ hears a name o M)))
 
-obeyed : (a : Made) (name : LinkName) (N : Log) (u : Outcome) → SlotsFine (slot_calls N) → ((k : ℕ) → name ≡ Direct k → is_in_slots k ≡ true) → ((who : Identity) → u ≡ meets who → same_vmac who.vmac broadcast ≡ false)
+obeyed : (a : Made) (name : LinkName) (N : Log) (u : Outcome) → SlotsFine (slot_calls N) → ((k : ℕ) → name ≡ Direct k → is_in_slots k ≡ true)
+    → ((who : Identity) → u ≡ meets who → same_vmac who.vmac broadcast ≡ false)
     → SlotsFine (slot_calls N ++ filter_map slot_call_of (obeys_by a name u N))
 obeyed a (Direct k) N (meets who) f here unicast = fine-meets_direct a k who N (here k refl) (unicast who refl) f
 obeyed a name N u f here unicast = fine-lines (obeys_by a name u N) (slot_calls N) (pass-obeys_by ups_none messages_ups refl a name u refl N) f
 
-slots_came : (a : Made) (name : LinkName) (o : List ℕ) (M : Log) → SlotsFine (slot_calls M) → ((k : ℕ) → name ≡ Direct k → is_in_slots k ≡ true) → SlotsFine (slot_calls M ++ filter_map slot_call_of (follows a (Came name o) M))
+slots_came : (a : Made) (name : LinkName) (o : List ℕ) (M : Log) → SlotsFine (slot_calls M) → ((k : ℕ) → name ≡ Direct k → is_in_slots k ≡ true)
+    → SlotsFine (slot_calls M ++ filter_map slot_call_of (follows a (Came name o) M))
 slots_came a name o M f here =
     subst (λ (told : List SlotCall). SlotsFine (slot_calls M ++ told)) (sym (came_calls a name o M))
     (subst (λ (calls : List SlotCall). SlotsFine (calls ++ filter_map slot_call_of (obeys a name (M ++ hears a name o M)))) (heard_calls a name o M)
@@ -216,13 +224,16 @@ begins_came a name o M =
 abbrev Given : Log → TimedEvent → Type 0
 Given L e = Fine L × IsTrue (may_come L e)
 
-slots_follow : (a : Made) (L : Log) (e : TimedEvent) (M : Log) (ev : NodeEvent) → e.event ≡ ev → Given L e → SlotsFine (slot_calls M) → ((name : LinkName) → ev ≡ Opened name → was_taken name M ≡ false) → SlotsFine (slot_calls M ++ filter_map slot_call_of (follows a ev M))
+slots_follow : (a : Made) (L : Log) (e : TimedEvent) (M : Log) (ev : NodeEvent) → e.event ≡ ev → Given L e → SlotsFine (slot_calls M)
+    → ((name : LinkName) → ev ≡ Opened name → was_taken name M ≡ false) → SlotsFine (slot_calls M ++ filter_map slot_call_of (follows a ev M))
 slots_follow a L e M (Came name o) is g f d = slots_came a name o M f (λ k n. came_in_slots L e k o g.0 g.1 (is ∙ ap (λ (m : LinkName). Came m o) n))
 slots_follow a L e M (Send dest npdu) is g f d = fine-lines (sends dest npdu M) (slot_calls M) (pass-sends ups_none messages_ups dest npdu M) f
 slots_follow a L e M ev is g f d =
-    fine-lines (follows a ev M) (slot_calls M) (pass-follows ups_none quiet_ups_none a M ev refl refl (record { dialled = d; next = λ name k i n uri. refl; dial = λ k free uri. refl; take = λ k free. refl })) f
+    fine-lines (follows a ev M) (slot_calls M) (pass-follows ups_none quiet_ups_none a M ev refl refl
+    (record { dialled = d; next = λ name k i n uri. refl; dial = λ k free uri. refl; take = λ k free. refl })) f
 
-begins_follow : (a : Made) (L : Log) (e : TimedEvent) (M : Log) (ev : NodeEvent) → e.event ≡ ev → Given L e → ((name : LinkName) → ev ≡ Opened name → was_taken name M ≡ false) → list_all begins_in_slots (follows a ev M) ≡ true
+begins_follow : (a : Made) (L : Log) (e : TimedEvent) (M : Log) (ev : NodeEvent) → e.event ≡ ev → Given L e → ((name : LinkName) → ev ≡ Opened name → was_taken name M ≡ false)
+    → list_all begins_in_slots (follows a ev M) ≡ true
 begins_follow a L e M (Came name o) is g d = begins_came a name o M
 begins_follow a L e M (Send dest npdu) is g d = pass-sends begins_in_slots messages_begins dest npdu M
 begins_follow a L e M ev is g d =
@@ -241,7 +252,8 @@ fine-goes_on a L e f h =
     (record {
       slots = subst SlotsFine (sym calls_are) (slots_follow a L e (with_event L e) e.event refl (f, h) (subst SlotsFine (sym event_calls) f.slots) (λ name is. opened-dialled L e name is h));
       begun = list_all-append begins_in_slots L (came e ∷ follows a e.event (with_event L e))
-          ∙ both (list_all begins_in_slots L) (list_all begins_in_slots (follows a e.event (with_event L e))) f.begun (begins_follow a L e (with_event L e) e.event refl (f, h) (λ name is. opened-dialled L e name is h));
+          ∙ both (list_all begins_in_slots L) (list_all begins_in_slots (follows a e.event (with_event L e))) f.begun
+          (begins_follow a L e (with_event L e) e.event refl (f, h) (λ name is. opened-dialled L e name is h));
     })
   where
     event_calls : slot_calls (with_event L e) ≡ slot_calls L

@@ -1,4 +1,5 @@
 -- Of what comes about at an event the first line alone is an event. So the time after it is its own.
+-- It serves many crates above.
 use Rattle.std.proofs.Common.{◌≡◌, ℕ, Bool, true, false, List, [], ◌∷◌, ◌++◌, Option, None, refl, ap, sym, ◌∙◌, append-nil, append_assoc}
 use Rattle.std.specs.Prelude.{IsTrue, unwrap_or}
 use Rattle.std.specs.List.{list_all}
@@ -51,7 +52,8 @@ none-obeys_by a name (passes_up msg) = pass-takes_body no_event lets_messages a 
 none-obeys_by a name keeps_still = pass-nothing no_event
 
 none-came : (a : Made) (name : LinkName) (o : List ℕ) → Passes no_event (follows a (Came name o))
-none-came a name o L = pass-two-then no_event (hears a name o) (obeys a name) [] L (machine (was_taken name L)) (none-obeys_by a name (outcome a (L ++ hears a name o L) name) (L ++ hears a name o L)) tt
+none-came a name o L = pass-two-then no_event (hears a name o) (obeys a name) [] L (machine (was_taken name L))
+    (none-obeys_by a name (outcome a (L ++ hears a name o L) name) (L ++ hears a name o L)) tt
   where
     machine : (b : Bool) → list_all no_event (by_machine (λ n. InitMessage (now L) (verdict a L n o)) (λ n. AcceptMessage (now L) (verdict a L n o)) name b) ≡ true
     machine true = refl

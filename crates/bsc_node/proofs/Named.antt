@@ -1,4 +1,5 @@
 -- A peer names itself in the message that came, which passed.
+-- It serves the clauses of `broadcasts_keep_off_slots`, `draws_last` and `slots_keep_apart`.
 use Rattle.std.proofs.Common.{◌≡◌, ℕ, Bool, true, false, cond, List, ◌++◌, Option, Some, None, refl, ap, sym, ◌∙◌}
 use Rattle.std.specs.Prelude.{◌==◌}
 use Rattle.bsc_octets.specs.declared.identity.Identity.{Identity}
@@ -39,12 +40,14 @@ asks_names body who h = cc
 
 -- ---- the machine of a link that was dialled
 
-named_answer : (now : ℕ) (m : Message) (who : Identity) (o : Option Identity) (code : Option ℕ) → who_accepts m.body ≡ o → initiating_outcome (InitMessage now (Pass m)) (answer_step o code) ≡ meets who → IsNamed (Pass m) who
+named_answer : (now : ℕ) (m : Message) (who : Identity) (o : Option Identity) (code : Option ℕ) → who_accepts m.body ≡ o
+    → initiating_outcome (InitMessage now (Pass m)) (answer_step o code) ≡ meets who → IsNamed (Pass m) who
 named_answer now m who (Some x) code is h = (m, refl, accepts_names m.body who (is ∙ same_who x who h))
 named_answer now m who None (Some code) is h = cc
 named_answer now m who None None is h = cc
 
-named_awaiting : (now : ℕ) (m : Message) (who : Identity) (b : Bool) → initiating_outcome (InitMessage now (Pass m)) (cond b (answer_step (who_accepts m.body) (refusing_code m.body)) InitNothing) ≡ meets who → IsNamed (Pass m) who
+named_awaiting : (now : ℕ) (m : Message) (who : Identity) (b : Bool) → initiating_outcome (InitMessage now (Pass m))
+    (cond b (answer_step (who_accepts m.body) (refusing_code m.body)) InitNothing) ≡ meets who → IsNamed (Pass m) who
 named_awaiting now m who true h = named_answer now m who (who_accepts m.body) (refusing_code m.body) refl h
 named_awaiting now m who false h = cc
 
@@ -54,7 +57,8 @@ named_connected now m who id DisconnectRequest h = cc
 named_connected now m who id HeartbeatAck h = cc
 named_connected now m who id body h = cc
 
-named_disconnecting : (now : ℕ) (m : Message) (who : Identity) (b : Bool) → initiating_outcome (InitMessage now (Pass m)) (cond b (InitClose AcceptingSteps.normal) InitNothing) ≡ meets who → IsNamed (Pass m) who
+named_disconnecting : (now : ℕ) (m : Message) (who : Identity) (b : Bool) → initiating_outcome (InitMessage now (Pass m)) (cond b (InitClose AcceptingSteps.normal) InitNothing) ≡ meets who
+    → IsNamed (Pass m) who
 named_disconnecting now m who true h = cc
 named_disconnecting now m who false h = cc
 
@@ -72,22 +76,26 @@ named_heard now (Nak check octets) who g h = cc
 
 -- ---- the machine of a link that was taken
 
-named_asked : (now : ℕ) (m : Message) (who : Identity) (o : Option Identity) → who_asks m.body ≡ o → accepting_outcome Accepting.awaiting_request (AcceptMessage now (Pass m)) (AcceptingSteps.ask_step o) ≡ meets who → IsNamed (Pass m) who
+named_asked : (now : ℕ) (m : Message) (who : Identity) (o : Option Identity) → who_asks m.body ≡ o
+    → accepting_outcome Accepting.awaiting_request (AcceptMessage now (Pass m)) (AcceptingSteps.ask_step o) ≡ meets who → IsNamed (Pass m) who
 named_asked now m who (Some x) is h = (m, refl, asks_names m.body who (is ∙ same_who x who h))
 named_asked now m who None is h = cc
 
-named_taken_connected : (now : ℕ) (m : Message) (who : Identity) (id : ℕ) (body : Body) → accepting_outcome Accepting.connected (AcceptMessage now (Pass m)) (AcceptingSteps.connected_step id body) ≡ meets who → IsNamed (Pass m) who
+named_taken_connected : (now : ℕ) (m : Message) (who : Identity) (id : ℕ) (body : Body)
+    → accepting_outcome Accepting.connected (AcceptMessage now (Pass m)) (AcceptingSteps.connected_step id body) ≡ meets who → IsNamed (Pass m) who
 named_taken_connected now m who id HeartbeatRequest h = cc
 named_taken_connected now m who id DisconnectRequest h = cc
 named_taken_connected now m who id body h = cc
 
-named_taken_disconnecting : (now : ℕ) (m : Message) (who : Identity) (g : Accepting.Standing) (b : Bool) → accepting_outcome g (AcceptMessage now (Pass m)) (cond b (StepClose AcceptingSteps.normal) StepNothing) ≡ meets who → IsNamed (Pass m) who
+named_taken_disconnecting : (now : ℕ) (m : Message) (who : Identity) (g : Accepting.Standing) (b : Bool)
+    → accepting_outcome g (AcceptMessage now (Pass m)) (cond b (StepClose AcceptingSteps.normal) StepNothing) ≡ meets who → IsNamed (Pass m) who
 named_taken_disconnecting now m who g true h = cc
 named_taken_disconnecting now m who Accepting.awaiting_request false h = cc
 named_taken_disconnecting now m who Accepting.connected false h = cc
 named_taken_disconnecting now m who (Accepting.disconnecting f) false h = cc
 
-named_taken_passed : (now : ℕ) (m : Message) (who : Identity) (g : Accepting.Standing) → accepting_outcome g (AcceptMessage now (Pass m)) (AcceptingSteps.passed_step g m) ≡ meets who → IsNamed (Pass m) who
+named_taken_passed : (now : ℕ) (m : Message) (who : Identity) (g : Accepting.Standing) → accepting_outcome g (AcceptMessage now (Pass m)) (AcceptingSteps.passed_step g m) ≡ meets who
+    → IsNamed (Pass m) who
 named_taken_passed now m who Accepting.awaiting_request h = named_asked now m who (who_asks m.body) refl h
 named_taken_passed now m who Accepting.connected h = named_taken_connected now m who m.id m.body h
 named_taken_passed now m who (Accepting.disconnecting f) h = named_taken_disconnecting now m who (Accepting.disconnecting f) (is_farewell_answer f.id m) h

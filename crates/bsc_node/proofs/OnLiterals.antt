@@ -1,4 +1,5 @@
 -- What an answer unfolds to compute what a node does at events that are written out.
+-- It serves bsc_network_of_runs, bsc_node_identity and bsc_node_links.
 use Rattle.std.specs.Prelude.{⊤}
 use Rattle.std.specs.Str.{is_utf8, chars}
 use lib.Utf8.{encode}

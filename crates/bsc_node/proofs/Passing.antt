@@ -1,4 +1,5 @@
 -- Rules whose lines all pass a test.
+-- It serves clauses of functions of `laws`.
 use Rattle.std.proofs.Common.{◌≡◌, Bool, true, false, ◌&&◌, List, [], ◌∷◌, ◌++◌, Option, Some, None, refl, ap, ◌∙◌}
 use Rattle.std.specs.Prelude.{⊤, map}
 use Rattle.std.specs.List.{list_all}
@@ -37,11 +38,13 @@ pass-nothing test L = refl
 pub pass-when : (test : Line → Bool) (asks : Log → Bool) (rule : Rule) → Passes test rule → Passes test (when asks rule)
 pass-when test asks rule p L = pass-if test (asks L) rule nothing p (pass-nothing test) L
 
-pub pass-some : {A : Type 0} (test : Line → Bool) (o : Option A) (rule : A → Rule) (other : Rule) → ((x : A) → Passes test (rule x)) → Passes test other → (L : Log) → list_all test (with_some o rule other L) ≡ true
+pub pass-some : {A : Type 0} (test : Line → Bool) (o : Option A) (rule : A → Rule) (other : Rule) → ((x : A) → Passes test (rule x)) → Passes test other → (L : Log)
+    → list_all test (with_some o rule other L) ≡ true
 pass-some test (Some x) rule other p q L = p x L
 pass-some test None rule other p q L = q L
 
-pub pass-found : {A : Type 0} (test : Line → Bool) (look : Log → Option A) (rule : A → Rule) (other : Rule) → ((x : A) → Passes test (rule x)) → Passes test other → Passes test (where_found look rule other)
+pub pass-found : {A : Type 0} (test : Line → Bool) (look : Log → Option A) (rule : A → Rule) (other : Rule) → ((x : A) → Passes test (rule x)) → Passes test other
+    → Passes test (where_found look rule other)
 pass-found test look rule other p q L = pass-some test (look L) rule other p q L
 
 pub pass-mapped : {A : Type 0} (test : Line → Bool) (rule : A → Rule) (xs : List A) → ((x : A) → Passes test (rule x)) → PassEach test (map rule xs)
@@ -55,7 +58,8 @@ pass-each-append test (rule ∷ rules) others p q = (p.0, pass-each-append test 
 -- what passes a test passes a weaker one
 pub pass-weaker : (test weaker : Line → Bool) → ((m : Line) → test m ≡ true → weaker m ≡ true) → (lines : List Line) → list_all test lines ≡ true → list_all weaker lines ≡ true
 pass-weaker test weaker w [] h = refl
-pass-weaker test weaker w (m ∷ lines) h = both (weaker m) (list_all weaker lines) (w m (left (test m) (list_all test lines) h)) (pass-weaker test weaker w lines (right (test m) (list_all test lines) h))
+pass-weaker test weaker w (m ∷ lines) h = both (weaker m) (list_all weaker lines) (w m (left (test m) (list_all test lines) h))
+    (pass-weaker test weaker w lines (right (test m) (list_all test lines) h))
   where
     left : (a b : Bool) → (a && b) ≡ true → a ≡ true
     left true b h = refl

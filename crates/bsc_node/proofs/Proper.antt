@@ -1,4 +1,5 @@
 -- A machine that hears a message never puts an Encapsulated-NPDU.
+-- It serves the clauses of `npdus_are_put_once`.
 use Rattle.std.proofs.Common.{◌≡◌, ℕ, Bool, true, false, not, List, ◌++◌, ◌∙◌, refl, ap}
 use Rattle.bsc_octets.specs.Functions.{is_npdu}
 use Rattle.bsc_checks.specs.declared.verdict.Verdict.{Verdict}
@@ -17,7 +18,8 @@ use Rattle.bsc_initiate.specs.Steps as InitiatingSteps
 use Rattle.bsc_initiate.proofs.OwnOctets as InitiatingOctets
 use Rattle.bsc_node.specs.Logs.{Made, Log, now}
 use Rattle.bsc_node.specs.declared.link_name.LinkName.{LinkName}
-use Rattle.bsc_node.specs.Links.{was_taken, start, initiating_events, accepting_events, verdict, by_machine, hears, Outcome, puts, puts_and_closes, up_from, up_by_accepting, initiating_outcome, accepting_outcome, outcome, place}
+use Rattle.bsc_node.specs.Links.{was_taken, start, initiating_events, accepting_events, verdict, by_machine, hears, Outcome, puts, puts_and_closes, up_from, up_by_accepting}
+use Rattle.bsc_node.specs.Links.{initiating_outcome, accepting_outcome, outcome, place}
 use Rattle.bsc_node.proofs.Told.{outcome-initiating, outcome-accepting}
 
 abbrev pub is_proper : Outcome → Bool

@@ -1,4 +1,5 @@
 -- Which rules are quiet: they neither deliver, nor put an Encapsulated-NPDU, nor begin a direct connection, nor bring a slot up, nor draw a word.
+-- It serves clauses of functions of `laws`.
 use Rattle.std.proofs.Common.{◌≡◌, ℕ, Bool, true, false, not, ◌&&◌, [], ◌∷◌, ◌++◌, refl, ap, ◌∙◌}
 use Rattle.std.specs.Prelude.{unwrap_or}
 use Rattle.std.specs.List.{list_all}
@@ -23,10 +24,12 @@ use Rattle.bsc_node.specs.declared.note.Note.TheVariants.{HubNow, DirectDown, Fi
 use Rattle.bsc_node.specs.declared.action.Action.{Action}
 use Rattle.bsc_node.specs.declared.action.Action.TheVariants.{Dial, Take, Put, Close, Deliver, Draw}
 use Rattle.bsc_node.specs.Logs.{Made, Line, did, slot, initiating, accepting, Log, Rule, nothing, in_order, either, when, where_found, does, tells, own_vmac, now, next_id, is_finishing, came}
-use Rattle.bsc_node.specs.Links.{is_there, none_there, was_taken, start, initiating_events, accepting_events, by_machine, ticks, finishes, Outcome, puts, puts_and_closes, closes, meets, is_refused, passes_up, keeps_still, outcome}
+use Rattle.bsc_node.specs.Links.{is_there, none_there, was_taken, start, initiating_events, accepting_events, by_machine, ticks, finishes, Outcome, puts, puts_and_closes, closes}
+use Rattle.bsc_node.specs.Links.{meets, is_refused, passes_up, keeps_still, outcome}
 use Rattle.bsc_node.specs.Hubs.{hub_use, hub_use_before, is_up, is_under_way, is_dropped, newest_step, told, same_use}
 use Rattle.bsc_node.specs.Ways.{established_peer, slots_see}
-use Rattle.bsc_node.specs.Ending.{carries_out_by, carries_out, finishes_machine, dials, dials_primary, dials_failover, tells_use, drops_failover, tells_connector, ends_hub, ends_slot, tells_finished, ends_by, ends, closes_link, finishes_link}
+use Rattle.bsc_node.specs.Ending.{carries_out_by, carries_out, finishes_machine, dials, dials_primary, dials_failover, tells_use, drops_failover, tells_connector, ends_hub}
+use Rattle.bsc_node.specs.Ending.{ends_slot, tells_finished, ends_by, ends, closes_link, finishes_link}
 use Rattle.bsc_node.specs.Meeting.{refusing_side, ends_refused, renews, keeps_vmac}
 use Rattle.bsc_node.proofs.Order.{in_order-brought}
 use Rattle.bsc_node.proofs.Passing.{Passes, pass-in_order, pass-either, pass-nothing, pass-when, pass-found}

@@ -1,4 +1,5 @@
 -- An Encapsulated-NPDU is put for a Send alone, at most once.
+-- It serves the clauses of `npdus_are_put_once`.
 use Rattle.std.proofs.Common.{◌≡◌, ℕ, Bool, true, false, not, cond, inl, inr, List, [], ◌∷◌, ◌++◌, Option, Some, None, refl, ap, ◌∙◌}
 use Rattle.std.specs.Prelude.{◌⊎◌, IsTrue, filter, filter_map}
 use Rattle.std.specs.List.{list_all}
@@ -112,7 +113,8 @@ sent_by_way a L e dest npdu w is path true h = inr (dest, npdu, w, is, path, h)
 sent_by_way a L e dest npdu w is path false h = inl h
 
 sent_by : (a : Made) (L : Log) (e : TimedEvent) (dest : Vmac) (npdu : List ℕ) → e.event ≡ Send dest npdu → (o : Option Way) → way dest (with_event L e) ≡ o
-    → npdus_put a L e ≡ filter puts_npdu (filter_map action_of (with_some o (λ w. either (other_end_takes w npdu) (puts_own w (Npdu npdu)) (tells (TooLong dest))) (tells (NoPath dest)) (with_event L e))) → (npdus_put a L e ≡ []) ⊎ IsPutOnce a L e
+    → npdus_put a L e ≡ filter puts_npdu (filter_map action_of (with_some o (λ w. either (other_end_takes w npdu) (puts_own w (Npdu npdu)) (tells (TooLong dest))) (tells (NoPath dest))
+    (with_event L e))) → (npdus_put a L e ≡ []) ⊎ IsPutOnce a L e
 sent_by a L e dest npdu is None path h = inl h
 sent_by a L e dest npdu is (Some w) path h = sent_by_way a L e dest npdu w is path (other_end_takes w npdu (with_event L e)) h
 

@@ -1,4 +1,5 @@
 -- The established slots of a node: they stay apart, none has the broadcast address, and each is one of the node's.
+-- It serves the clauses of `broadcasts_keep_off_slots`, `draws_last` and `slots_keep_apart`.
 use Rattle.std.proofs.Common.{◌≡◌, ℕ, Bool, true, false, cond, ◌||◌, List, [], ◌∷◌, ◌++◌, find, Option, Some, None, refl, ap, sym, ◌∙◌, subst}
 use Rattle.std.specs.Prelude.{◌==◌, filter_map}
 use Rattle.std.specs.List.{list_all, list_any}
@@ -41,7 +42,8 @@ pub record SlotsFine (calls : List SlotCall) : Type 0 where
   pub unicast : PeersAreUnicast calls
   pub within : (k : ℕ) (who : Identity) → established_peer calls k ≡ Some who → is_in_slots k ≡ true
 
-fine_quietly : (calls : List SlotCall) (call : SlotCall) → ((k : ℕ) → Slots.peer_by k call ≡ None) → ((k : ℕ) (w : Identity) → Slots.replaces k w call ≡ false) → SlotsFine calls → SlotsFine (calls ++ call ∷ [])
+fine_quietly : (calls : List SlotCall) (call : SlotCall) → ((k : ℕ) → Slots.peer_by k call ≡ None) → ((k : ℕ) (w : Identity) → Slots.replaces k w call ≡ false) → SlotsFine calls
+    → SlotsFine (calls ++ call ∷ [])
 fine_quietly calls call p r f = record {
   apart = quiet-apart calls call p r f.apart;
   unicast = quiet-unicast calls call p r f.unicast;
@@ -89,7 +91,8 @@ none_found : (test : ℕ → Bool) (ks : List ℕ) (k : ℕ) → find test ks �
 none_found test [] k h here = cc
 none_found test (j ∷ ks) k h here = by (test j) refl h (k == j) refl here (none_found test ks k)
   where
-    by : (b : Bool) → test j ≡ b → cond b (Some j) (find test ks) ≡ None → (d : Bool) → (k == j) ≡ d → (d || list_any (λ i. k == i) ks) ≡ true → (find test ks ≡ None → list_any (λ i. k == i) ks ≡ true → test k ≡ false) → test k ≡ false
+    by : (b : Bool) → test j ≡ b → cond b (Some j) (find test ks) ≡ None → (d : Bool) → (k == j) ≡ d → (d || list_any (λ i. k == i) ks) ≡ true
+        → (find test ks ≡ None → list_any (λ i. k == i) ks ≡ true → test k ≡ false) → test k ≡ false
     by true t g d e l later = cc
     by false t g true e l later = ap test (eqb-true k j e) ∙ t
     by false t g false e l later = later g l
@@ -110,7 +113,8 @@ up_by (Some v) who own o d r h = by (same_vmac v who.vmac) h
 pub no_rival : (own : Vmac) (calls : List SlotCall) (k : ℕ) (who : Identity) (r : Option ℕ) → SlotsFine calls → Slots.establish own calls k who ≡ IsUp r → HasNoRival calls who
 no_rival own calls k who r f h j y e =
     ap (is_peer (is_rival who)) (sym e)
-    ∙ none_found (λ i. is_peer (is_rival who) (established_peer calls i)) slots j (up_by (Slots.wanted calls k) who (same_vmac who.vmac own) (rival calls who) (of_device calls who.device) r h) (f.within j y e)
+    ∙ none_found (λ i. is_peer (is_rival who) (established_peer calls i)) slots j
+    (up_by (Slots.wanted calls k) who (same_vmac who.vmac own) (rival calls who) (of_device calls who.device) r h) (f.within j y e)
 
 -- ---- what is told to the slots where a peer has named itself
 
@@ -125,7 +129,8 @@ no_calls_carried name (passes_up msg) L = refl
 no_calls_carried name keeps_still L = refl
 
 -- where it comes up, that is told first, and nothing of that kind after it
-fine_comes_up : (a : Made) (k : ℕ) (who : Identity) (replaced : Option ℕ) (L : Log) (calls : List SlotCall) → is_in_slots k ≡ true → HasNoRival calls who → same_vmac who.vmac broadcast ≡ false → SlotsFine calls
+fine_comes_up : (a : Made) (k : ℕ) (who : Identity) (replaced : Option ℕ) (L : Log) (calls : List SlotCall) → is_in_slots k ≡ true → HasNoRival calls who
+    → same_vmac who.vmac broadcast ≡ false → SlotsFine calls
     → SlotsFine (calls ++ filter_map slot_call_of (comes_up a k who replaced L))
 fine_comes_up a k who replaced L calls here rival unicast f =
     subst (λ (lines : List Line). SlotsFine (calls ++ filter_map slot_call_of lines)) (sym (in_order-brought (slots_see (Up k who) ∷ tells (DirectUp who.vmac) ∷ finishes_replaced a replaced ∷ []) L))
@@ -135,34 +140,42 @@ fine_comes_up a k who replaced L calls here rival unicast f =
     (fine_up calls k who here rival unicast f)))
 
 told_where_taken : (a : Made) (k : ℕ) (who : Identity) (replaced : Option ℕ) (L : Log)
-    → filter_map slot_call_of (meets_taken a k who (IsUp replaced) L) ≡ filter_map slot_call_of (comes_up a k who replaced ((L ++ joins (Direct k) L) ++ carries_out a (Direct k) (L ++ joins (Direct k) L)))
+    → filter_map slot_call_of (meets_taken a k who (IsUp replaced) L) ≡ filter_map slot_call_of
+    (comes_up a k who replaced ((L ++ joins (Direct k) L) ++ carries_out a (Direct k) (L ++ joins (Direct k) L)))
 told_where_taken a k who replaced L =
     ap (filter_map slot_call_of) (in_order-brought (joins (Direct k) ∷ carries_out a (Direct k) ∷ comes_up a k who replaced ∷ []) L)
-    ∙ filter_map-append slot_call_of (carries_out a (Direct k) (L ++ joins (Direct k) L)) (comes_up a k who replaced ((L ++ joins (Direct k) L) ++ carries_out a (Direct k) (L ++ joins (Direct k) L)) ++ [])
+    ∙ filter_map-append slot_call_of (carries_out a (Direct k) (L ++ joins (Direct k) L))
+    (comes_up a k who replaced ((L ++ joins (Direct k) L) ++ carries_out a (Direct k) (L ++ joins (Direct k) L)) ++ [])
     ∙ ap (λ (told : List SlotCall). told ++ filter_map slot_call_of (comes_up a k who replaced ((L ++ joins (Direct k) L) ++ carries_out a (Direct k) (L ++ joins (Direct k) L)) ++ []))
     (no_calls_carried (Direct k) (outcome a (L ++ joins (Direct k) L) (Direct k)) (L ++ joins (Direct k) L))
     ∙ ap (filter_map slot_call_of) (append-nil (comes_up a k who replaced ((L ++ joins (Direct k) L) ++ carries_out a (Direct k) (L ++ joins (Direct k) L))))
 
 -- a taken link: the Connect-Accept goes out before it, which is told to no slot
-fine_taken : (a : Made) (k : ℕ) (who : Identity) (replaced : Option ℕ) (L : Log) (calls : List SlotCall) → is_in_slots k ≡ true → HasNoRival calls who → same_vmac who.vmac broadcast ≡ false → SlotsFine calls
+fine_taken : (a : Made) (k : ℕ) (who : Identity) (replaced : Option ℕ) (L : Log) (calls : List SlotCall) → is_in_slots k ≡ true → HasNoRival calls who → same_vmac who.vmac broadcast ≡ false
+    → SlotsFine calls
     → SlotsFine (calls ++ filter_map slot_call_of (meets_taken a k who (IsUp replaced) L))
 fine_taken a k who replaced L calls here rival unicast f =
     subst (λ (told : List SlotCall). SlotsFine (calls ++ told)) (sym (told_where_taken a k who replaced L))
     (fine_comes_up a k who replaced ((L ++ joins (Direct k) L) ++ carries_out a (Direct k) (L ++ joins (Direct k) L)) calls here rival unicast f)
 
 -- A peer of a direct connection has named itself: whatever the slots answer, they are fine.
-fine_met : (a : Made) (k : ℕ) (who : Identity) (N : Log) (e : Establish) (b : Bool) → is_in_slots k ≡ true → same_vmac who.vmac broadcast ≡ false → SlotsFine (slot_calls N) → establish a k who N ≡ e → was_taken (Direct k) N ≡ b
+fine_met : (a : Made) (k : ℕ) (who : Identity) (N : Log) (e : Establish) (b : Bool) → is_in_slots k ≡ true → same_vmac who.vmac broadcast ≡ false → SlotsFine (slot_calls N)
+    → establish a k who N ≡ e → was_taken (Direct k) N ≡ b
     → SlotsFine (slot_calls N ++ filter_map slot_call_of (if_so b (meets_taken a k who e) (meets_dialled a k who e) N))
 fine_met a k who N (IsUp r) true here unicast f h t = fine_taken a k who r N (slot_calls N) here (no_rival (own_vmac a N) (slot_calls N) k who r f h) unicast f
 fine_met a k who N (IsUp r) false here unicast f h t = fine_comes_up a k who r N (slot_calls N) here (no_rival (own_vmac a N) (slot_calls N) k who r f h) unicast f
 fine_met a k who N (Duplicate holder) true here unicast f h t = fine-lines (meets_taken a k who (Duplicate holder) N) (slot_calls N) (pass-refused ups_none quiet_ups_none a k N t) f
-fine_met a k who N (Duplicate holder) false here unicast f h t = fine-lines (closes_link a (Direct k) wrong_peer N) (slot_calls N) (lets-rule ups_none quiet_ups_none (closes_link a (Direct k) wrong_peer) (quiet-closes_link a (Direct k) wrong_peer) N) f
+fine_met a k who N (Duplicate holder) false here unicast f h t = fine-lines (closes_link a (Direct k) wrong_peer N) (slot_calls N)
+    (lets-rule ups_none quiet_ups_none (closes_link a (Direct k) wrong_peer) (quiet-closes_link a (Direct k) wrong_peer) N) f
 fine_met a k who N (WrongPeer v) true here unicast f h t = fine-lines (meets_taken a k who (WrongPeer v) N) (slot_calls N) (pass-refused ups_none quiet_ups_none a k N t) f
-fine_met a k who N (WrongPeer v) false here unicast f h t = fine-lines (closes_link a (Direct k) wrong_peer N) (slot_calls N) (lets-rule ups_none quiet_ups_none (closes_link a (Direct k) wrong_peer) (quiet-closes_link a (Direct k) wrong_peer) N) f
+fine_met a k who N (WrongPeer v) false here unicast f h t = fine-lines (closes_link a (Direct k) wrong_peer N) (slot_calls N)
+    (lets-rule ups_none quiet_ups_none (closes_link a (Direct k) wrong_peer) (quiet-closes_link a (Direct k) wrong_peer) N) f
 
-pub fine-meets_direct : (a : Made) (k : ℕ) (who : Identity) (N : Log) → is_in_slots k ≡ true → same_vmac who.vmac broadcast ≡ false → SlotsFine (slot_calls N) → SlotsFine (slot_calls N ++ filter_map slot_call_of (meets_direct a k who N))
+pub fine-meets_direct : (a : Made) (k : ℕ) (who : Identity) (N : Log) → is_in_slots k ≡ true → same_vmac who.vmac broadcast ≡ false → SlotsFine (slot_calls N)
+    → SlotsFine (slot_calls N ++ filter_map slot_call_of (meets_direct a k who N))
 fine-meets_direct a k who N here unicast f = by (awaits_peer k N)
   where
     by : (b : Bool) → SlotsFine (slot_calls N ++ filter_map slot_call_of (if_so b (meets_slot a k who) (closes_link a (Direct k) wrong_peer) N))
     by true = fine_met a k who N (establish a k who N) (was_taken (Direct k) N) here unicast f refl refl
-    by false = fine-lines (closes_link a (Direct k) wrong_peer N) (slot_calls N) (lets-rule ups_none quiet_ups_none (closes_link a (Direct k) wrong_peer) (quiet-closes_link a (Direct k) wrong_peer) N) f
+    by false = fine-lines (closes_link a (Direct k) wrong_peer N) (slot_calls N)
+        (lets-rule ups_none quiet_ups_none (closes_link a (Direct k) wrong_peer) (quiet-closes_link a (Direct k) wrong_peer) N) f

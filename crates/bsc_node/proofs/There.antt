@@ -1,4 +1,5 @@
 -- Which links are there, once one line more stands in the log.
+-- It serves bsc_node_core, bsc_node_identity and bsc_node_laws.
 use Rattle.std.proofs.Common.{◌≡◌, Bool, true, false, not, ◌||◌, ◌&&◌, [], ◌∷◌, ◌++◌, refl, ap, ◌∙◌}
 use Rattle.std.specs.List.{list_any}
 use Rattle.bsc_connector.proofs.BackLemmas.{list_any-more}

@@ -1,4 +1,5 @@
 -- What a link's machine was told, and its newest step, once it is told something more.
+-- It serves clauses of functions of `laws`.
 use Rattle.std.proofs.Common.{◌≡◌, Bool, true, false, cond, List, [], ◌∷◌, ◌++◌, refl, ap, ◌∙◌}
 use Rattle.std.specs.Prelude.{filter_map, unwrap_or}
 use Rattle.std.proofs.lemmas.List.{reverse-append, reverse-reverse}
@@ -14,7 +15,8 @@ use Rattle.bsc_initiate.specs.Steps as InitiatingSteps
 use Rattle.bsc_node.specs.declared.link_name.LinkName.{LinkName}
 use Rattle.bsc_node.specs.declared.link_name.LinkName.TheVariants.{Hub, Direct}
 use Rattle.bsc_node.specs.Logs.{Made, Line, initiating, accepting, Log}
-use Rattle.bsc_node.specs.Links.{same_link, beginning_of, begins, life, was_taken, start, initiating_event, accepting_event, initiating_events, accepting_events, Outcome, keeps_still, initiating_outcome, accepting_outcome, outcome_by, outcome}
+use Rattle.bsc_node.specs.Links.{same_link, beginning_of, begins, life, was_taken, start, initiating_event, accepting_event, initiating_events, accepting_events, Outcome}
+use Rattle.bsc_node.specs.Links.{keeps_still, initiating_outcome, accepting_outcome, outcome_by, outcome}
 use Rattle.bsc_lemmas.proofs.Booleans.{eq_self as same_number}
 
 pub at_last-more : {A B : Type 0} (f : List A → A → B) (d : B) (xs : List A) (x : A) → at_last f d (xs ++ x ∷ []) ≡ f xs x

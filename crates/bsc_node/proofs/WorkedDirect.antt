@@ -1,8 +1,10 @@
 -- Scenes of direct connections, by computation.
+-- No clause needs it: worked examples.
 use Rattle.std.proofs.Common.{◌≡◌, ◌+◌, true, false, List, [], ◌∷◌, ◌++◌, Some, replicate, refl}
 use Rattle.std.specs.Prelude.{codes, drop}
 use Rattle.bsc_octets.specs.Addresses.{broadcast}
-use Rattle.bsc_frame.specs.declared.body.Body.TheVariants.{Npdu, AddressResolution, AdvertisementSolicitation, ConnectRequest, ConnectAccept, DisconnectRequest, DisconnectAck, HeartbeatRequest, HeartbeatAck}
+use Rattle.bsc_frame.specs.declared.body.Body.TheVariants.{Npdu, AddressResolution, AdvertisementSolicitation, ConnectRequest, ConnectAccept, DisconnectRequest, DisconnectAck}
+use Rattle.bsc_frame.specs.declared.body.Body.TheVariants.{HeartbeatRequest, HeartbeatAck}
 use Rattle.bsc_connector.specs.declared.hub_use.HubUse.TheVariants.{NoHub}
 use Rattle.bsc_direct.specs.declared.bounds.TheConstants.{SLOTS}
 use Rattle.bsc_accept.specs.declared.reason.Reason.TheVariants.{Nothing, TableFull, WrongPeer, Idle, ConnectWait}
@@ -38,7 +40,8 @@ meets = dials ++ hears 32 (direct 0) (plain 4 (ConnectAccept a)) ∷ []
 
 -- It is established, and a message goes over it without addresses; a broadcast goes over the hub. A second DirectTo does
 -- nothing.
-established : drop 11 (each_actions the_node (meets ++ at 33 (Send (address 10) (1 ∷ 0 ∷ [])) ∷ at 34 (Send broadcast (1 ∷ 0 ∷ [])) ∷ at 35 (DirectTo (address 10)) ∷ at 36 (Solicit (address 10)) ∷ []))
+established : drop 11 (each_actions the_node (meets ++ at 33 (Send (address 10) (1 ∷ 0 ∷ [])) ∷ at 34 (Send broadcast (1 ∷ 0 ∷ [])) ∷ at 35 (DirectTo (address 10))
+    ∷ at 36 (Solicit (address 10)) ∷ []))
     ≡ (Dial (direct 0) (codes "ws://1/") ∷ [])
     ∷ (puts (direct 0) 4 (ConnectRequest b) ∷ [])
     ∷ (Tell (DirectUp (address 10)) ∷ [])
@@ -51,7 +54,8 @@ unfolding node_on_literals
 established = refl
 
 -- What comes over it is the peer's.
-peers : drop 14 (each_actions the_node (meets ++ hears 33 (direct 0) (plain 9 (Npdu (1 ∷ 2 ∷ []))) ∷ hears 34 (direct 0) (plain 9 AddressResolution) ∷ hears 35 (direct 0) (plain 9 HeartbeatRequest) ∷ at 36 (Lost (direct 0)) ∷ at 37 (Send (address 10) (1 ∷ 0 ∷ [])) ∷ []))
+peers : drop 14 (each_actions the_node (meets ++ hears 33 (direct 0) (plain 9 (Npdu (1 ∷ 2 ∷ []))) ∷ hears 34 (direct 0) (plain 9 AddressResolution)
+    ∷ hears 35 (direct 0) (plain 9 HeartbeatRequest) ∷ at 36 (Lost (direct 0)) ∷ at 37 (Send (address 10) (1 ∷ 0 ∷ [])) ∷ []))
     ≡ (Deliver (record { from = address 10; broadcast = false; data_options = []; npdu = 1 ∷ 2 ∷ [] }) ∷ [])
     ∷ (puts (direct 0) 9 (nak 0x02 45) ∷ [])
     ∷ (puts (direct 0) 9 HeartbeatAck ∷ [])
@@ -85,7 +89,8 @@ wrong_peer = refl
 duplicate_dialled :
     drop 13
     (each_actions the_node
-    (dials ++ at 32 Arrived ∷ hears 33 (direct 1) (plain 1 (ConnectRequest (peer 0x0A 0xDD))) ∷ hears 34 (direct 0) (plain 4 (ConnectAccept a)) ∷ at 35 (Send (address 10) (1 ∷ 0 ∷ [])) ∷ at 36 Arrived ∷ []))
+    (dials ++ at 32 Arrived ∷ hears 33 (direct 1) (plain 1 (ConnectRequest (peer 0x0A 0xDD))) ∷ hears 34 (direct 0) (plain 4 (ConnectAccept a)) ∷ at 35 (Send (address 10) (1 ∷ 0 ∷ []))
+    ∷ at 36 Arrived ∷ []))
     ≡ (Take (direct 1) ∷ [])
     ∷ (puts (direct 1) 1 (ConnectAccept b) ∷ Tell (DirectUp (address 10)) ∷ [])
     ∷ (Close (direct 0) (closing 1008 WrongPeer) ∷ [])
@@ -114,7 +119,8 @@ unfolding node_on_literals
 text_taken = refl
 
 -- One that was taken and is established too.
-text_taken_established : actions the_node (connects ++ at 20 Arrived ∷ hears 21 (direct 0) (plain 1 (ConnectRequest a)) ∷ at 22 (CameText (direct 0)) ∷ []) ≡ Close (direct 0) (closing 1003 Nothing) ∷ Tell (DirectDown (address 10)) ∷ []
+text_taken_established : actions the_node (connects ++ at 20 Arrived ∷ hears 21 (direct 0) (plain 1 (ConnectRequest a)) ∷ at 22 (CameText (direct 0)) ∷ [])
+    ≡ Close (direct 0) (closing 1003 Nothing) ∷ Tell (DirectDown (address 10)) ∷ []
 unfolding node_on_literals
 text_taken_established = refl
 
@@ -129,7 +135,8 @@ unfolding node_on_literals
 refused_alone = refl
 
 -- A question goes over the direct connection, and its NAK over that drops it: it can be asked again.
-nak_direct : drop 14 (each_actions the_node (meets ++ at 33 (Resolve (address 10)) ∷ at 34 (Resolve (address 10)) ∷ hears 35 (direct 0) (plain 5 (nak 0x02 45)) ∷ at 36 (Resolve (address 10)) ∷ hears 37 (direct 0) (plain 9 (nak 0x01 45)) ∷ []))
+nak_direct : drop 14 (each_actions the_node (meets ++ at 33 (Resolve (address 10)) ∷ at 34 (Resolve (address 10)) ∷ hears 35 (direct 0) (plain 5 (nak 0x02 45)) ∷ at 36 (Resolve (address 10))
+    ∷ hears 37 (direct 0) (plain 9 (nak 0x01 45)) ∷ []))
     ≡ (puts (direct 0) 5 AddressResolution ∷ [])
     ∷ (Tell (AskPending (address 10)) ∷ [])
     ∷ (Tell (Nak (Some (address 10)) 2 45) ∷ [])
@@ -149,7 +156,8 @@ too_long_direct = refl
 
 -- A dials while slot 0 is established for it: the new connection is up, and the old slot is told to finish with the next
 -- number. The path is the new slot. The old link's end tells nothing; the new one's does.
-replaced : drop 14 (each_actions the_node (meets ++ at 40 Arrived ∷ hears 41 (direct 1) (plain 1 (ConnectRequest a)) ∷ at 42 (Send (address 10) (1 ∷ 0 ∷ [])) ∷ hears 43 (direct 0) (plain 5 DisconnectAck) ∷ at 44 (Lost (direct 1)) ∷ []))
+replaced : drop 14 (each_actions the_node (meets ++ at 40 Arrived ∷ hears 41 (direct 1) (plain 1 (ConnectRequest a)) ∷ at 42 (Send (address 10) (1 ∷ 0 ∷ []))
+    ∷ hears 43 (direct 0) (plain 5 DisconnectAck) ∷ at 44 (Lost (direct 1)) ∷ []))
     ≡ (Take (direct 1) ∷ [])
     ∷ (puts (direct 1) 1 (ConnectAccept b) ∷ Tell (DirectUp (address 10)) ∷ puts (direct 0) 5 DisconnectRequest ∷ [])
     ∷ (puts (direct 1) 6 (Npdu (1 ∷ 0 ∷ [])) ∷ [])
@@ -163,7 +171,8 @@ replaced = refl
 replaced_taken :
     drop 11
     (each_actions the_node
-    (asks ++ at 28 Arrived ∷ at 29 (DirectTo (address 10)) ∷ at 30 (Opened (direct 1)) ∷ hears 31 (direct 0) (plain 1 (ConnectRequest a)) ∷ hears 32 (direct 1) (plain 4 (ConnectAccept a)) ∷ at 10032 Tick ∷ []))
+    (asks ++ at 28 Arrived ∷ at 29 (DirectTo (address 10)) ∷ at 30 (Opened (direct 1)) ∷ hears 31 (direct 0) (plain 1 (ConnectRequest a)) ∷ hears 32 (direct 1) (plain 4 (ConnectAccept a))
+    ∷ at 10032 Tick ∷ []))
     ≡ (Take (direct 0) ∷ [])
     ∷ (Dial (direct 1) (codes "ws://1/") ∷ [])
     ∷ (puts (direct 1) 4 (ConnectRequest b) ∷ [])
@@ -175,7 +184,8 @@ unfolding node_on_literals
 replaced_taken = refl
 
 -- Another device has A's VMAC, or this node's: it gets the NAK, and the link is closed. The slot is free again.
-duplicate : drop 14 (each_actions the_node (meets ++ at 40 Arrived ∷ hears 41 (direct 1) (plain 1 (ConnectRequest (peer 0x0A 0xDD))) ∷ at 42 Arrived ∷ hears 43 (direct 1) (plain 1 (ConnectRequest (peer 0x0B 0xDD))) ∷ []))
+duplicate : drop 14 (each_actions the_node (meets ++ at 40 Arrived ∷ hears 41 (direct 1) (plain 1 (ConnectRequest (peer 0x0A 0xDD))) ∷ at 42 Arrived
+    ∷ hears 43 (direct 1) (plain 1 (ConnectRequest (peer 0x0B 0xDD))) ∷ []))
     ≡ (Take (direct 1) ∷ [])
     ∷ (puts (direct 1) 1 (nak 0x06 151) ∷ Close (direct 1) normal ∷ [])
     ∷ (Take (direct 1) ∷ [])
@@ -206,7 +216,8 @@ falls_silent = refl
 -- ---- these events may come
 
 abbrev double_dialled : List TimedEvent
-double_dialled = dials ++ at 32 Arrived ∷ hears 33 (direct 1) (plain 1 (ConnectRequest (peer 0x0A 0xDD))) ∷ hears 34 (direct 0) (plain 4 (ConnectAccept a)) ∷ at 35 (Send (address 10) (1 ∷ 0 ∷ [])) ∷ at 36 Arrived ∷ []
+double_dialled = dials ++ at 32 Arrived ∷ hears 33 (direct 1) (plain 1 (ConnectRequest (peer 0x0A 0xDD))) ∷ hears 34 (direct 0) (plain 4 (ConnectAccept a))
+    ∷ at 35 (Send (address 10) (1 ∷ 0 ∷ [])) ∷ at 36 Arrived ∷ []
 
 double_dialled-lawful : may_all_come the_node double_dialled ≡ true
 unfolding node_on_literals
@@ -220,7 +231,8 @@ unfolding node_on_literals
 nak_over_it-lawful = refl
 
 abbrev replacing : List TimedEvent
-replacing = meets ++ at 40 Arrived ∷ hears 41 (direct 1) (plain 1 (ConnectRequest a)) ∷ at 42 (Send (address 10) (1 ∷ 0 ∷ [])) ∷ hears 43 (direct 0) (plain 5 DisconnectAck) ∷ at 44 (Lost (direct 1)) ∷ []
+replacing = meets ++ at 40 Arrived ∷ hears 41 (direct 1) (plain 1 (ConnectRequest a)) ∷ at 42 (Send (address 10) (1 ∷ 0 ∷ [])) ∷ hears 43 (direct 0) (plain 5 DisconnectAck)
+    ∷ at 44 (Lost (direct 1)) ∷ []
 
 replacing-lawful : may_all_come the_node replacing ≡ true
 unfolding node_on_literals
@@ -228,7 +240,8 @@ replacing-lawful = refl
 
 abbrev crossing : List TimedEvent
 crossing =
-    asks ++ at 28 Arrived ∷ at 29 (DirectTo (address 10)) ∷ at 30 (Opened (direct 1)) ∷ hears 31 (direct 0) (plain 1 (ConnectRequest a)) ∷ hears 32 (direct 1) (plain 4 (ConnectAccept a)) ∷ at 10032 Tick ∷ []
+    asks ++ at 28 Arrived ∷ at 29 (DirectTo (address 10)) ∷ at 30 (Opened (direct 1)) ∷ hears 31 (direct 0) (plain 1 (ConnectRequest a)) ∷ hears 32 (direct 1) (plain 4 (ConnectAccept a))
+    ∷ at 10032 Tick ∷ []
 
 crossing-lawful : may_all_come the_node crossing ≡ true
 unfolding node_on_literals

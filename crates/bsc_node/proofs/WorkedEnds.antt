@@ -1,4 +1,5 @@
 -- Scenes of a node that is told to finish, in each state of its links, by computation.
+-- No clause needs it: worked examples.
 use Rattle.std.proofs.Common.{◌≡◌, ℕ, true, List, [], ◌∷◌, ◌++◌, refl, arith}
 use Rattle.bsc_frame.specs.declared.body.Body.TheVariants.{AddressResolutionAck, ConnectRequest, ConnectAccept, DisconnectRequest, DisconnectAck}
 use Rattle.bsc_connector.specs.declared.hub_use.HubUse.TheVariants.{NoHub, Primary as UsesPrimary}
@@ -72,7 +73,8 @@ by_loss = refl
 -- machines, with the next numbers; it has ended when the last link is over.
 with_slots :
     each_actions two_hubs
-    (connects ++ at 20 Arrived ∷ hears 21 (direct 0) (plain 1 (ConnectRequest a)) ∷ at 22 Arrived ∷ at 100 Finish ∷ hears 101 (direct 0) (plain 3 DisconnectAck) ∷ hears 102 primary (plain 2 DisconnectAck) ∷ [])
+    (connects ++ at 20 Arrived ∷ hears 21 (direct 0) (plain 1 (ConnectRequest a)) ∷ at 22 Arrived ∷ at 100 Finish ∷ hears 101 (direct 0) (plain 3 DisconnectAck)
+    ∷ hears 102 primary (plain 2 DisconnectAck) ∷ [])
     ≡ each_actions two_hubs connects
     ++ (Take (direct 0) ∷ [])
     ∷ (puts (direct 0) 1 (ConnectAccept b) ∷ Tell (DirectUp (address 10)) ∷ [])
@@ -95,14 +97,17 @@ d_uri = codes "ws://d/"
 
 abbrev six_slots : List TimedEvent
 six_slots =
-    connects ++ at 20 (Resolve (address d)) ∷ hears 21 primary (from d 2 (AddressResolutionAck d_uri)) ∷ at 22 (DirectTo (address d)) ∷ at 23 (Opened (direct 0)) ∷ hears 24 (direct 0) (plain 3 (ConnectAccept (peer d 0xD0)))
-    ∷ at 25 Arrived ∷ hears 26 (direct 1) (plain 1 (ConnectRequest a)) ∷ at 27 Arrived ∷ at 28 (Resolve (address 12)) ∷ hears 29 primary (from 12 4 (AddressResolutionAck d_uri)) ∷ at 30 (DirectTo (address 12)) ∷ at 31 (Opened (direct 3))
+    connects ++ at 20 (Resolve (address d)) ∷ hears 21 primary (from d 2 (AddressResolutionAck d_uri)) ∷ at 22 (DirectTo (address d)) ∷ at 23 (Opened (direct 0))
+    ∷ hears 24 (direct 0) (plain 3 (ConnectAccept (peer d 0xD0)))
+    ∷ at 25 Arrived ∷ hears 26 (direct 1) (plain 1 (ConnectRequest a)) ∷ at 27 Arrived ∷ at 28 (Resolve (address 12)) ∷ hears 29 primary (from 12 4 (AddressResolutionAck d_uri))
+    ∷ at 30 (DirectTo (address 12)) ∷ at 31 (Opened (direct 3))
     ∷ at 32 (DirectTo (address 12)) ∷ at 33 Arrived ∷ hears 34 (direct 5) (plain 1 (ConnectRequest (peer d 0xD0))) ∷ []
 
 six_slots-finish :
     drop 16
     (each_actions (node alone)
-    (six_slots ++ at 100 Finish ∷ hears 101 (direct 1) (plain 8 DisconnectAck) ∷ hears 102 (direct 0) (plain 6 DisconnectAck) ∷ hears 103 primary (plain 7 DisconnectAck) ∷ hears 104 (direct 5) (plain 9 DisconnectAck) ∷ []))
+    (six_slots ++ at 100 Finish ∷ hears 101 (direct 1) (plain 8 DisconnectAck) ∷ hears 102 (direct 0) (plain 6 DisconnectAck) ∷ hears 103 primary (plain 7 DisconnectAck)
+    ∷ hears 104 (direct 5) (plain 9 DisconnectAck) ∷ []))
     ≡ (Take (direct 5) ∷ [])
     ∷ (puts (direct 5) 1 (ConnectAccept b) ∷ Tell (DirectUp (address d)) ∷ puts (direct 0) 6 DisconnectRequest ∷ [])
     ∷ (puts primary 7 DisconnectRequest ∷ puts (direct 1) 8 DisconnectRequest ∷ Close (direct 2) normal ∷ Close (direct 3) normal ∷ Close (direct 4) normal ∷ puts (direct 5) 9 DisconnectRequest ∷ [])
@@ -135,7 +140,8 @@ run_with_link = refl
 -- No link comes: it dials twice.
 run_without_link :
     each_actions (node alone)
-    (at 0 Start ∷ at 0 Tick ∷ at 50 Tick ∷ at 50 (DialFailed primary) ∷ at 50 (Send (address 10) (1 ∷ 0 ∷ [])) ∷ at 2049 Tick ∷ at 2050 Tick ∷ at 2100 Tick ∷ at 2100 (DialFailed primary) ∷ at 2100 Finish ∷ [])
+    (at 0 Start ∷ at 0 Tick ∷ at 50 Tick ∷ at 50 (DialFailed primary) ∷ at 50 (Send (address 10) (1 ∷ 0 ∷ [])) ∷ at 2049 Tick ∷ at 2050 Tick ∷ at 2100 Tick ∷ at 2100 (DialFailed primary)
+    ∷ at 2100 Finish ∷ [])
     ≡ (Dial primary primary_uri ∷ []) ∷ [] ∷ [] ∷ [] ∷ (Tell (NoPath (address 10)) ∷ []) ∷ [] ∷ (Dial primary primary_uri ∷ []) ∷ [] ∷ [] ∷ (Tell Finished ∷ []) ∷ []
 unfolding node_on_literals
 run_without_link = refl
@@ -144,7 +150,8 @@ run_without_link = refl
 
 abbrev ends_with_slots : List TimedEvent
 ends_with_slots =
-    connects ++ at 20 Arrived ∷ hears 21 (direct 0) (plain 1 (ConnectRequest a)) ∷ at 22 Arrived ∷ at 100 Finish ∷ hears 101 (direct 0) (plain 3 DisconnectAck) ∷ hears 102 primary (plain 2 DisconnectAck) ∷ []
+    connects ++ at 20 Arrived ∷ hears 21 (direct 0) (plain 1 (ConnectRequest a)) ∷ at 22 Arrived ∷ at 100 Finish ∷ hears 101 (direct 0) (plain 3 DisconnectAck)
+    ∷ hears 102 primary (plain 2 DisconnectAck) ∷ []
 
 with_slots-lawful : may_all_come two_hubs ends_with_slots ≡ true
 unfolding node_on_literals
@@ -171,7 +178,14 @@ under_way-lawful = refl
 may_be_made : MayBeMade (node with_failover)
 unfolding node_on_literals
 may_be_made = record {
-  own = record { address = refl; device = refl; reserved = fails_of (b.vmac ≡ zero_vmac) (same_vmac b.vmac zero_vmac) (one_address b.vmac zero_vmac) refl; broadcast = fails_of (b.vmac ≡ broadcast) (same_vmac b.vmac broadcast) (one_address b.vmac broadcast) refl; bvlc = omega arith; npdu = omega arith };
+  own = record {
+    address = refl;
+    device = refl;
+    reserved = fails_of (b.vmac ≡ zero_vmac) (same_vmac b.vmac zero_vmac) (one_address b.vmac zero_vmac) refl;
+    broadcast = fails_of (b.vmac ≡ broadcast) (same_vmac b.vmac broadcast) (one_address b.vmac broadcast) refl;
+    bvlc = omega arith;
+    npdu = omega arith;
+  };
   uris = tt;
   times = record { connect_wait = omega arith; disconnect_wait = omega arith; heartbeat = omega arith };
   least = omega arith;

@@ -1,4 +1,5 @@
 -- Scenes of a node's hub connections, by computation: what the node does at each event.
+-- No clause needs it: worked examples.
 use Rattle.std.proofs.Common.{◌≡◌, true, List, [], ◌∷◌, ◌++◌, Some, None, refl}
 use Rattle.bsc_frame.specs.declared.body.Body.TheVariants.{ConnectRequest, DisconnectRequest, DisconnectAck, HeartbeatRequest}
 use Rattle.bsc_connector.specs.declared.hub_use.HubUse.TheVariants.{NoHub, Primary as UsesPrimary, Failover as UsesFailover}
@@ -75,7 +76,8 @@ before_accept = refl
 dropped_dialled :
     drop 5
     (each_actions two_hubs
-    (at 0 Start ∷ at 100 (DialFailed primary) ∷ at 2100 Tick ∷ at 2150 (Opened primary) ∷ hears 2200 primary (accept 1) ∷ at 3000 (Lost primary) ∷ at 3100 (Opened failover) ∷ at 12999 Tick ∷ at 13000 Tick ∷ []))
+    (at 0 Start ∷ at 100 (DialFailed primary) ∷ at 2100 Tick ∷ at 2150 (Opened primary) ∷ hears 2200 primary (accept 1) ∷ at 3000 (Lost primary) ∷ at 3100 (Opened failover) ∷ at 12999 Tick
+    ∷ at 13000 Tick ∷ []))
     ≡ (Dial failover failover_uri ∷ Tell (HubNow NoHub) ∷ [])
     ∷ (puts failover 2 (ConnectRequest b) ∷ [])
     ∷ (Dial primary primary_uri ∷ [])
@@ -207,7 +209,8 @@ unfolding node_on_literals
 lingering-lawful = refl
 
 abbrev waiting : List TimedEvent
-waiting = at 0 Start ∷ at 100 (DialFailed primary) ∷ at 150 (DialFailed failover) ∷ at 2100 Tick ∷ at 2110 (DialFailed primary) ∷ at 2150 Tick ∷ at 2160 (Opened failover) ∷ at 2170 (CameText failover) ∷ at 6110 Tick ∷ []
+waiting = at 0 Start ∷ at 100 (DialFailed primary) ∷ at 150 (DialFailed failover) ∷ at 2100 Tick ∷ at 2110 (DialFailed primary) ∷ at 2150 Tick ∷ at 2160 (Opened failover)
+    ∷ at 2170 (CameText failover) ∷ at 6110 Tick ∷ []
 
 waiting-lawful : may_all_come two_hubs waiting ≡ true
 unfolding node_on_literals

@@ -1,4 +1,5 @@
 -- Scenes of messages over the hub, of what the checks refuse and of questions, by computation.
+-- No clause needs it: worked examples.
 use Rattle.std.proofs.Common.{◌≡◌, ℕ, true, false, List, [], ◌∷◌, ◌++◌, Some, None, replicate, refl}
 use Rattle.std.specs.Prelude.{codes, drop}
 use Rattle.bsc_options.specs.declared.item.OptionItem.{OptionItem}
@@ -87,7 +88,8 @@ abbrev unknown : OptionItem
 unknown = record { must = true; kind = 2; content = None }
 
 -- A destination option that has to be understood, and isn't: the NAK goes to the sender. To all it is met by silence.
-not_understood : drop 3 (each_actions (node alone) (connects ++ hears 20 primary (record (from 10 9 (Npdu (1 ∷ 0 ∷ []))) { dest_options = unknown ∷ [] }) ∷ hears 21 primary (record (to_all_from 10 9 (Npdu (1 ∷ 0 ∷ []))) { dest_options = unknown ∷ [] }) ∷ []))
+not_understood : drop 3 (each_actions (node alone) (connects ++ hears 20 primary (record (from 10 9 (Npdu (1 ∷ 0 ∷ []))) { dest_options = unknown ∷ [] })
+    ∷ hears 21 primary (record (to_all_from 10 9 (Npdu (1 ∷ 0 ∷ []))) { dest_options = unknown ∷ [] }) ∷ []))
     ≡ (Put primary (for_node 10 9 (BvlcResult (NakAnswer 0x01 0x42 7 146 []))) ∷ []) ∷ [] ∷ []
 unfolding node_on_literals
 not_understood = refl
@@ -136,7 +138,8 @@ asks-actions = refl
 wait_over :
     drop 3
     (each_actions the_node
-    (connects ++ at 20 (Resolve (address 10)) ∷ at 10019 Tick ∷ at 10019 (Resolve (address 10)) ∷ at 10020 Tick ∷ hears 10021 primary (from 10 2 (AddressResolutionAck three_uris)) ∷ at 10022 (DirectTo (address 10))
+    (connects ++ at 20 (Resolve (address 10)) ∷ at 10019 Tick ∷ at 10019 (Resolve (address 10)) ∷ at 10020 Tick ∷ hears 10021 primary (from 10 2 (AddressResolutionAck three_uris))
+    ∷ at 10022 (DirectTo (address 10))
     ∷ at 10023 (Resolve (address 10)) ∷ []))
     ≡ (Put primary (for_node 10 2 AddressResolution) ∷ [])
     ∷ []
@@ -151,7 +154,8 @@ wait_over = refl
 
 -- The hub is lost while a question is under way: there is no path, and the question stands. Its answer counts when a hub is
 -- connected again.
-hub_lost : drop 3 (each_actions the_node (connects ++ at 20 (Resolve (address 10)) ∷ at 21 (Lost primary) ∷ at 22 (Resolve (address 10)) ∷ at 2021 Tick ∷ at 2022 (Opened primary) ∷ hears 2023 primary (accept 3) ∷ at 2024 (Resolve (address 10)) ∷ hears 2025 primary (from 10 2 (AddressResolutionAck three_uris)) ∷ []))
+hub_lost : drop 3 (each_actions the_node (connects ++ at 20 (Resolve (address 10)) ∷ at 21 (Lost primary) ∷ at 22 (Resolve (address 10)) ∷ at 2021 Tick ∷ at 2022 (Opened primary)
+    ∷ hears 2023 primary (accept 3) ∷ at 2024 (Resolve (address 10)) ∷ hears 2025 primary (from 10 2 (AddressResolutionAck three_uris)) ∷ []))
     ≡ (Put primary (for_node 10 2 AddressResolution) ∷ [])
     ∷ (Tell (HubNow NoHub) ∷ [])
     ∷ (Tell (NoPath (address 10)) ∷ [])
@@ -165,7 +169,8 @@ unfolding node_on_literals
 hub_lost = refl
 
 -- Its wait passes without a hub too: then it can be asked again.
-hub_lost-wait : drop 7 (each_actions the_node (connects ++ at 20 (Resolve (address 10)) ∷ at 21 (Lost primary) ∷ at 2021 Tick ∷ at 2022 (Opened primary) ∷ hears 2023 primary (accept 3) ∷ at 10020 Tick ∷ at 10021 (Resolve (address 10)) ∷ []))
+hub_lost-wait : drop 7 (each_actions the_node (connects ++ at 20 (Resolve (address 10)) ∷ at 21 (Lost primary) ∷ at 2021 Tick ∷ at 2022 (Opened primary) ∷ hears 2023 primary (accept 3)
+    ∷ at 10020 Tick ∷ at 10021 (Resolve (address 10)) ∷ []))
     ≡ (Tell (HubNow UsesPrimary) ∷ []) ∷ [] ∷ (Put primary (for_node 10 4 AddressResolution) ∷ []) ∷ []
 unfolding node_on_literals
 hub_lost-wait = refl
@@ -180,7 +185,8 @@ kept = refl
 other_naks :
     drop 4
     (each_actions the_node
-    (connects ++ at 20 (Resolve (address 10)) ∷ hears 21 primary (from 10 2 (nak 0x01 45)) ∷ hears 22 primary (from 12 2 (nak 0x02 45)) ∷ hears 23 primary (from 10 3 (nak 0x02 45)) ∷ hears 24 primary (plain 2 (nak 0x02 45)) ∷ at 25 (Resolve (address 10)) ∷ []))
+    (connects ++ at 20 (Resolve (address 10)) ∷ hears 21 primary (from 10 2 (nak 0x01 45)) ∷ hears 22 primary (from 12 2 (nak 0x02 45)) ∷ hears 23 primary (from 10 3 (nak 0x02 45))
+    ∷ hears 24 primary (plain 2 (nak 0x02 45)) ∷ at 25 (Resolve (address 10)) ∷ []))
     ≡ (Tell (Nak (Some (address 10)) 1 45) ∷ [])
     ∷ (Tell (Nak (Some (address 12)) 2 45) ∷ [])
     ∷ (Tell (Nak (Some (address 10)) 2 45) ∷ [])

@@ -1,4 +1,5 @@
 -- Scenes of a node whose VMAC a hub refuses, by computation.
+-- No clause needs it: worked examples.
 use Rattle.std.proofs.Common.{◌≡◌, true, ℕ, zero, suc, List, [], ◌∷◌, ◌++◌, None, refl}
 use Rattle.std.specs.Prelude.{◌+◌, drop}
 use Rattle.bsc_octets.specs.declared.vmac.Vmac.{Vmac}
@@ -110,7 +111,8 @@ unfolding node_on_literals
 eight-lawful = refl
 
 -- A hub that accepts begins the count anew: after eight renewals and an accept, a refusal draws again.
-accepted_between : actions the_node (eight ++ ninth ++ hears 300002 primary (accept 9) ∷ at 300003 (Lost primary) ∷ at 400000 Tick ∷ at 400001 (Opened primary) ∷ hears 400002 primary (refusal 10) ∷ [])
+accepted_between : actions the_node (eight ++ ninth ++ hears 300002 primary (accept 9) ∷ at 300003 (Lost primary) ∷ at 400000 Tick ∷ at 400001 (Opened primary)
+    ∷ hears 400002 primary (refusal 10) ∷ [])
     ≡ Close primary normal ∷ Tell (Nak None 6 151) ∷ Draw ∷ []
 unfolding node_on_literals
 accepted_between = refl

@@ -1,4 +1,5 @@
 -- Lemmas that crates above cite too.
+-- It serves many crates above.
 use Rattle.bsc_octets.specs.Addresses.{same_vmac, same_device}
 use Rattle.bsc_octets.specs.Forwarding.{id_in}
 use Rattle.bsc_octets.specs.declared.device_id.DeviceId.{DeviceId}

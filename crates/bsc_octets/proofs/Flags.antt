@@ -1,4 +1,5 @@
 -- The bits of the control flags: how they are tested, and what putting in bit 3 and taking out bit 2 leaves.
+-- It serves the clauses of `forwarded`.
 use Rattle.std.proofs.Common.{◌≡◌, ℕ, ◌*◌, ◌/◌, ◌%◌, Bool, true, false, if◌then◌else◌, refl, ◌∙◌, arith}
 use Rattle.std.specs.Prelude.{bit_and, bit_or}
 use Rattle.std.proofs.lemmas.Nat.Bits.{and_pow, bit_at_or, bit_at_and, bit_at-lt}

@@ -1,4 +1,5 @@
 -- An identity's octets say that identity, and no other octets do.
+-- It serves the clauses of `read_identity` and `write_identity`.
 use Rattle.std.proofs.Common.{◌≡◌, ℕ, ◌+◌, ◌<◌, List, [], ◌++◌, length, get_or, take, drop, refl, sym, ap, ◌∙◌, append_assoc, arith, length-append, length-drop}
 use Rattle.std.proofs.Math.Seq.{take-add}
 use Rattle.std.proofs.lemmas.List.{take_at, drop_at, take_all, get_or-drop}
@@ -19,8 +20,10 @@ identity_of-octets who six sixteen bvlc npdu =
     let by_two : identity_octets who ≡ (v ++ d) ++ (b ++ n) = append_assoc (v ++ d) b n in
     let vmac : take 6 (identity_octets who) ≡ v = ap (take 6) by_one ∙ take_at v (d ++ (b ++ n)) 6 six in
     let device : take 16 (drop 6 (identity_octets who)) ≡ d = ap (λ (l : List ℕ). take 16 (drop 6 l)) by_one ∙ ap (take 16) (drop_at v (d ++ (b ++ n)) 6 six) ∙ take_at d (b ++ n) 16 sixteen in
-    let longest : big_number 2 (drop 22 (identity_octets who)) ≡ who.max_bvlc = ap (λ (l : List ℕ). big_number 2 (drop 22 l)) by_two ∙ ap (big_number 2) (drop_at (v ++ d) (b ++ n) 22 twenty_two) ∙ two_octet_number who.max_bvlc n bvlc in
-    let largest : big_number 2 (drop 24 (identity_octets who)) ≡ who.max_npdu = ap (big_number 2) (drop_at ((v ++ d) ++ b) n 24 (omega (arith, length-append (v ++ d) b))) ∙ two_octet_number who.max_npdu [] npdu in
+    let longest : big_number 2 (drop 22 (identity_octets who)) ≡ who.max_bvlc = ap (λ (l : List ℕ). big_number 2 (drop 22 l)) by_two
+    ∙ ap (big_number 2) (drop_at (v ++ d) (b ++ n) 22 twenty_two) ∙ two_octet_number who.max_bvlc n bvlc in
+    let largest : big_number 2 (drop 24 (identity_octets who)) ≡ who.max_npdu = ap (big_number 2) (drop_at ((v ++ d) ++ b) n 24 (omega (arith, length-append (v ++ d) b)))
+    ∙ two_octet_number who.max_npdu [] npdu in
     rw (vmac, device, longest, largest) refl
 
 pub identity_octets-of : (b : List ℕ) → length b ≡ 26 → ((i : ℕ) → get_or b i 0 < 256) → identity_octets (identity_of b) ≡ b

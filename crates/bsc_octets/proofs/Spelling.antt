@@ -1,5 +1,7 @@
 -- The envelope that is read from a message is the one that the message spells.
-use Rattle.std.proofs.Common.{◌≡◌, ℕ, suc, ◌+◌, ◌<◌, ◌≤◌, Bool, true, false, cond, ltb, List, [], ◌∷◌, ◌++◌, length, get_or, take, drop, Option, Some, None, is_some, Result, Ok, Err, IfOk, IfSome, refl, ap, sym, ◌∙◌, subst, arith, append_assoc, append-nil, length-append, length-take, length-drop}
+-- It serves the clauses of `read_envelope`.
+use Rattle.std.proofs.Common.{◌≡◌, ℕ, suc, ◌+◌, ◌<◌, ◌≤◌, Bool, true, false, cond, ltb, List, [], ◌∷◌, ◌++◌, length, get_or, take, drop, Option, Some, None, is_some, Result, Ok}
+use Rattle.std.proofs.Common.{Err, IfOk, IfSome, refl, ap, sym, ◌∙◌, subst, arith, append_assoc, append-nil, length-append, length-take, length-drop}
 use Rattle.std.proofs.lemmas.Bool.{le-ltb, ltb-false}
 use Rattle.std.proofs.lemmas.List.{take-append-drop, take_at, drop_at, drop-drop}
 use Rattle.byteorder.specs.Endian.{big_bytes}
@@ -13,7 +15,9 @@ use Rattle.bsc_octets.specs.Envelopes.{announces_origin, announces_dest, address
 -- ---- what is read is spelled
 
 -- an envelope of the first four octets and of the addresses that stand behind them
-leaf : (f g a b : ℕ) (rest : List ℕ) (o d : Option Vmac) (at n : ℕ) → a < 256 → b < 256 → rest ≡ (address_octets o ++ address_octets d) ++ drop n rest → drop at (f ∷ g ∷ a ∷ b ∷ rest) ≡ drop n rest → at ≡ 4 + length (address_octets o ++ address_octets d) → announces_origin g ≡ is_some o → announces_dest g ≡ is_some d → SpellsEnvelope (header_of (f ∷ g ∷ a ∷ b ∷ rest) o d at) (f ∷ g ∷ a ∷ b ∷ rest)
+leaf : (f g a b : ℕ) (rest : List ℕ) (o d : Option Vmac) (at n : ℕ) → a < 256 → b < 256 → rest ≡ (address_octets o ++ address_octets d) ++ drop n rest
+    → drop at (f ∷ g ∷ a ∷ b ∷ rest) ≡ drop n rest → at ≡ 4 + length (address_octets o ++ address_octets d) → announces_origin g ≡ is_some o → announces_dest g ≡ is_some d
+    → SpellsEnvelope (header_of (f ∷ g ∷ a ∷ b ∷ rest) o d at) (f ∷ g ∷ a ∷ b ∷ rest)
 leaf f g a b rest o d at n ha hb cut same place org dst =
     let ids = two_octets a b rest ha hb in
     record {
@@ -29,11 +33,14 @@ six_long rest h = rw length-take (omega arith)
 
 -- twelve octets in front, as two times six
 two_cuts : (l : List ℕ) → l ≡ (take 6 l ++ take 6 (drop 6 l)) ++ drop 12 l
-two_cuts l = sym (append_assoc (take 6 l) (take 6 (drop 6 l)) (drop 12 l) ∙ ap (λ (r : List ℕ). take 6 l ++ (take 6 (drop 6 l) ++ r)) (sym (drop-drop 6 6 l)) ∙ ap (λ (r : List ℕ). take 6 l ++ r) (take-append-drop 6 (drop 6 l)) ∙ take-append-drop 6 l)
+two_cuts l = sym (append_assoc (take 6 l) (take 6 (drop 6 l)) (drop 12 l) ∙ ap (λ (r : List ℕ). take 6 l ++ (take 6 (drop 6 l) ++ r)) (sym (drop-drop 6 6 l))
+    ∙ ap (λ (r : List ℕ). take 6 l ++ r) (take-append-drop 6 (drop 6 l)) ∙ take-append-drop 6 l)
 
 -- by what the flags announce, and what there is room for
-by_flags : (f g a b : ℕ) (rest : List ℕ) (e : Envelope) → a < 256 → b < 256 → (o d t s : Bool) → announces_origin g ≡ o → announces_dest g ≡ d → (t ≡ false → 6 ≤ length rest) → (s ≡ false → 12 ≤ length rest)
-    → cond o (cond t (Err Cut) (cond d (cond s (Err Cut) (Ok (header_of (f ∷ g ∷ a ∷ b ∷ rest) (Some (vmac_at (f ∷ g ∷ a ∷ b ∷ rest) 4)) (Some (vmac_at (f ∷ g ∷ a ∷ b ∷ rest) 10)) 16))) (Ok (header_of (f ∷ g ∷ a ∷ b ∷ rest) (Some (vmac_at (f ∷ g ∷ a ∷ b ∷ rest) 4)) None 10))))
+by_flags : (f g a b : ℕ) (rest : List ℕ) (e : Envelope) → a < 256 → b < 256 → (o d t s : Bool) → announces_origin g ≡ o → announces_dest g ≡ d → (t ≡ false → 6 ≤ length rest)
+    → (s ≡ false → 12 ≤ length rest)
+    → cond o (cond t (Err Cut) (cond d (cond s (Err Cut) (Ok (header_of (f ∷ g ∷ a ∷ b ∷ rest) (Some (vmac_at (f ∷ g ∷ a ∷ b ∷ rest) 4)) (Some (vmac_at (f ∷ g ∷ a ∷ b ∷ rest) 10)) 16)))
+    (Ok (header_of (f ∷ g ∷ a ∷ b ∷ rest) (Some (vmac_at (f ∷ g ∷ a ∷ b ∷ rest) 4)) None 10))))
     (cond d (cond t (Err Cut) (Ok (header_of (f ∷ g ∷ a ∷ b ∷ rest) None (Some (vmac_at (f ∷ g ∷ a ∷ b ∷ rest) 4)) 10))) (Ok (header_of (f ∷ g ∷ a ∷ b ∷ rest) None None 4))) ≡ Ok e
     → SpellsEnvelope e (f ∷ g ∷ a ∷ b ∷ rest)
 by_flags f g a b rest e ha hb true d true s p q t6 s12 h = cc
@@ -70,7 +77,8 @@ spelled (f ∷ g ∷ a ∷ b ∷ rest) e all h =
     let n = length (f ∷ g ∷ a ∷ b ∷ rest) in
     let four : 4 ≤ n = omega arith in
     let not_short : ltb n 4 ≡ false = le-ltb n 4 four in
-    by_flags f g a b rest e (all 2) (all 3) (announces_origin g) (announces_dest g) (ltb n 10) (ltb n 16) refl refl (λ t. let k = ltb-false n 10 t in omega arith) (λ t. let k = ltb-false n 16 t in omega arith) (rw not_short at h)
+    by_flags f g a b rest e (all 2) (all 3) (announces_origin g) (announces_dest g) (ltb n 10) (ltb n 16) refl refl (λ t. let k = ltb-false n 10 t in omega arith)
+    (λ t. let k = ltb-false n 16 t in omega arith) (rw not_short at h)
 
 pub spelled_result : (m : List ℕ) (r : Result Envelope EnvelopeFault) → ((i : ℕ) → get_or m i 0 < 256) → r ≡ envelope_of m → IfOk r (λ e. SpellsEnvelope e m)
 spelled_result m (Ok e) all h = spelled m e all (sym h)
@@ -79,7 +87,8 @@ spelled_result m (Err e) all h = tt
 -- ---- what is spelled is read
 
 -- by the addresses that there are
-at_front : (f g n at : ℕ) (o d : Option Vmac) (rest : List ℕ) → n < 65536 → announces_origin g ≡ is_some o → announces_dest g ≡ is_some d → IfSome o (λ v. length v.0 ≡ 6) → IfSome d (λ v. length v.0 ≡ 6) → at ≡ length ((f ∷ g ∷ big_bytes 2 n) ++ address_octets o ++ address_octets d)
+at_front : (f g n at : ℕ) (o d : Option Vmac) (rest : List ℕ) → n < 65536 → announces_origin g ≡ is_some o → announces_dest g ≡ is_some d → IfSome o (λ v. length v.0 ≡ 6)
+    → IfSome d (λ v. length v.0 ≡ 6) → at ≡ length ((f ∷ g ∷ big_bytes 2 n) ++ address_octets o ++ address_octets d)
     → envelope_of (((f ∷ g ∷ big_bytes 2 n) ++ address_octets o ++ address_octets d) ++ rest) ≡ Ok (record { function = f; flags = g; id = n; origin = o; dest = d; rest_at = at })
 unfolding envelope_of
 at_front f g n at None None rest small p q six_o six_d place =
@@ -108,7 +117,19 @@ at_front f g n at (Some o) (Some d) rest small p q six_o six_d place =
     let ten : ltb (length m) 10 ≡ false = le-ltb (length m) 10 (omega arith) in
     let sixteen : ltb (length m) 16 ≡ false = le-ltb (length m) 16 long in
     let there : at ≡ 16 = omega (arith, length-append o.0 d.0) in
-    rw (append_assoc o.0 d.0 rest, four, p, q, ten, sixteen, two_octet_number n (o.0 ++ (d.0 ++ rest)) small, take_at o.0 (d.0 ++ rest) 6 six_o, drop_at o.0 (d.0 ++ rest) 6 six_o, take_at d.0 rest 6 six_d, there) refl
+    rw (
+      append_assoc o.0 d.0 rest,
+      four,
+      p,
+      q,
+      ten,
+      sixteen,
+      two_octet_number n (o.0 ++ (d.0 ++ rest)) small,
+      take_at o.0 (d.0 ++ rest) 6 six_o,
+      drop_at o.0 (d.0 ++ rest) 6 six_o,
+      take_at d.0 rest 6 six_d,
+      there,
+    ) refl
 
 -- a message spells no envelope but the one that is read from it
 pub only : (e : Envelope) (m : List ℕ) → HasWholeAddresses e → e.id < 65536 → SpellsEnvelope e m → envelope_of m ≡ Ok e

@@ -1,4 +1,5 @@
 -- Numbers of two octets, as octets and back.
+-- It serves clauses of functions of `envelope`, `forwarding` and `identity`.
 use Rattle.std.proofs.Common.{◌≡◌, ℕ, ◌+◌, ◌*◌, ◌%◌, ◌<◌, ◌≤◌, List, [], ◌∷◌, ◌++◌, length, get_or, take, refl, arith}
 use Rattle.std.proofs.lemmas.Nat.{div-mul-add, mod-mul-add}
 use Rattle.byteorder.specs.Endian.{big_bytes, big_number}

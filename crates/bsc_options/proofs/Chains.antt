@@ -1,4 +1,5 @@
 -- Items that others follow, and the list that they begin.
+-- It serves the clauses of `list_length`.
 use Rattle.std.proofs.Common.{◌≡◌, ℕ, ◌+◌, ◌<◌, Bool, true, false, List, [], ◌∷◌, ◌++◌, length, drop, None, refl, sym, ap, ◌∙◌, append_assoc, arith, length-append}
 use Rattle.std.specs.List.{AllByRecursion, flat_map}
 use Rattle.std.proofs.lemmas.List.{drop_at, append-nil, flat_map_more}
@@ -49,7 +50,8 @@ pub walked_out : (o rest next : List ℕ) (item : OptionItem) (n : ℕ) → Walk
 walked_out o rest next item n walked fits e place =
     let front = walked.0 in
     let items = front ++ item ∷ [] in
-    let spelled : spelling_of items ≡ chain front ++ item_octets false item = spelling_of-chain front (item ∷ []) (omega arith) ∙ ap (λ (l : List ℕ). chain front ++ l) (append-nil (item_octets false item)) in
+    let spelled : spelling_of items ≡ chain front ++ item_octets false item = spelling_of-chain front (item ∷ []) (omega arith)
+    ∙ ap (λ (l : List ℕ). chain front ++ l) (append-nil (item_octets false item)) in
     let whole : o ≡ spelling_of items ++ next =
     walked.2 ∙ ap (λ (l : List ℕ). chain front ++ l) e ∙ sym (append_assoc (chain front) (item_octets false item) next) ∙ ap (λ (l : List ℕ). l ++ next) (sym spelled) in
     let long : length (spelling_of items) ≡ n = omega (arith, ap length whole, length-append (spelling_of items) next) in
@@ -76,7 +78,8 @@ cut_by o rest walked false item missing fits some e =
       missing = missing;
       are = record { some = omega (arith, length-append front (item ∷ [])); fit = all_append Fits front (item ∷ []) walked.1 (fits, tt) };
       some = some;
-      spelling = ap (λ (l : List ℕ). l ++ missing) walked.2 ∙ append_assoc (chain front) rest missing ∙ ap (λ (l : List ℕ). chain front ++ l) (e ∙ sym (append-nil (item_octets false item))) ∙ sym (spelling_of-chain front (item ∷ []) (omega arith));
+      spelling = ap (λ (l : List ℕ). l ++ missing) walked.2 ∙ append_assoc (chain front) rest missing ∙ ap (λ (l : List ℕ). chain front ++ l) (e ∙ sym (append-nil (item_octets false item)))
+          ∙ sym (spelling_of-chain front (item ∷ []) (omega arith));
     }
 cut_by o rest walked true item missing fits some e =
     let front = walked.0 in

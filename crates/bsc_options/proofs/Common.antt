@@ -1,4 +1,5 @@
 -- Lemmas that crates above cite too.
+-- It serves clauses of functions of `checking`, `first`, `laws` and `reading`.
 use Rattle.bsc_options.specs.Spelling.{bit}
 use Rattle.std.proofs.Common.{eqb, zero, ◌≡◌, refl, arith, ◌<◌, suc, ℕ}
 

@@ -1,4 +1,5 @@
 -- The answers of looking at a list are those of reading it, without the list.
+-- It serves the clauses of `check_options`, `look_at` and `options_end`.
 use Rattle.std.proofs.Common.{◌≡◌, ◌≢◌, ℕ, ◌+◌, ◌<◌, ◌≤◌, inl, inr, List, length, drop, Some, None, Result, Ok, Err, refl, sym, ap, subst, ◌∙◌, arith, length-append, length-drop}
 use Rattle.std.specs.Prelude.{IfOk}
 use Rattle.bsc_options.specs.declared.item.OptionItem.{OptionItem}

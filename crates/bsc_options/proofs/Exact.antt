@@ -1,5 +1,7 @@
 -- The answers of reading exclude one another.
-use Rattle.std.proofs.Common.{◌≡◌, ◌≢◌, ℕ, ◌+◌, ◌<◌, ◌≤◌, ◌⊎◌, inl, inr, List, [], ◌∷◌, ◌++◌, length, take, drop, Some, None, Result, Ok, Err, refl, sym, ap, subst, ◌∙◌, append_assoc, arith, length-append, length-drop}
+-- It serves clauses of functions of `checking`, `laws` and `reading`.
+use Rattle.std.proofs.Common.{◌≡◌, ◌≢◌, ℕ, ◌+◌, ◌<◌, ◌≤◌, ◌⊎◌, inl, inr, List, [], ◌∷◌, ◌++◌, length, take, drop, Some, None, Result, Ok, Err, refl, sym, ap, subst, ◌∙◌}
+use Rattle.std.proofs.Common.{append_assoc, arith, length-append, length-drop}
 use Rattle.std.specs.Prelude.{IfOk}
 use Rattle.std.specs.List.{AllByRecursion}
 use Rattle.std.proofs.lemmas.List.{take_at, drop_all, drop-drop, append-nil}
@@ -16,7 +18,10 @@ use Rattle.bsc_options.proofs.Faults.{FaultAt, fault_at, all_have_shape, shape_w
 
 pub begins_at : (m o : List ℕ) (at n : ℕ) (items : List OptionItem) → o ≡ drop at m → BeginsWith o 0 items n → BeginsWith m at items (at + n)
 begins_at m o at n items e begins =
-    record { spelling = sym e ∙ begins.spelling ∙ ap (λ (l : List ℕ). spelling_of items ++ drop n l) e ∙ ap (λ (l : List ℕ). spelling_of items ++ l) (drop-drop n at m); place = omega (arith, begins.place) }
+    record {
+      spelling = sym e ∙ begins.spelling ∙ ap (λ (l : List ℕ). spelling_of items ++ drop n l) e ∙ ap (λ (l : List ℕ). spelling_of items ++ l) (drop-drop n at m);
+      place = omega (arith, begins.place);
+    }
 
 -- the octets of the list alone
 pub list_taken : (o : List ℕ) (n : ℕ) (ends : EndsAt o n) → take n o ≡ spelling_of ends.items
@@ -31,7 +36,8 @@ pub options_found : (m o : List ℕ) (at n : ℕ) (e : o ≡ drop at m) (ends : 
 options_found m o at n e ends none =
     (record { some = ends.are.some; shapes = all_have_shape ends.items ends.are.fit (sym (none ends.items ends.are.fit (list_taken o n ends))) }, begins_at m o at n ends.items e ends.whole)
 
-pub list_answers : (m o : List ℕ) (at n : ℕ) (list : List OptionItem) → o ≡ drop at m → EndsAt o n → SaysOf o n (λ items. None ≡ first_fault items) → SaysOf o n (λ items. list ≡ items) → OptionListAnswers m at (Ok (list, at + n))
+pub list_answers : (m o : List ℕ) (at n : ℕ) (list : List OptionItem) → o ≡ drop at m → EndsAt o n → SaysOf o n (λ items. None ≡ first_fault items) → SaysOf o n (λ items. list ≡ items)
+    → OptionListAnswers m at (Ok (list, at + n))
 list_answers m o at n list e ends none read =
     let found = options_found m o at n e ends none in
     let same : list ≡ ends.items = read ends.items ends.are.fit (list_taken o n ends) in
@@ -43,7 +49,8 @@ memory_answers m o at n e ends none =
     (ends.items, at + n, found.0, found.1)
 
 -- an item is at fault
-first_found : (m o : List ℕ) (at n : ℕ) (items : List OptionItem) (fault : OptionsFault) (found : FaultAt items fault) → o ≡ drop at m → AreItems items → BeginsWith o 0 items n → (HasShape found.item → ⊥) → IsFirstAtFault m at found.item
+first_found : (m o : List ℕ) (at n : ℕ) (items : List OptionItem) (fault : OptionsFault) (found : FaultAt items fault) → o ≡ drop at m → AreItems items → BeginsWith o 0 items n
+    → (HasShape found.item → ⊥) → IsFirstAtFault m at found.item
 first_found m o at n items fault found e are whole bad =
     record {
       before = found.before;
@@ -55,7 +62,8 @@ first_found m o at n items fault found e are whole bad =
       fault = bad;
     }
 
-by_fault : (m o : List ℕ) (at n : ℕ) (items : List OptionItem) (fault : OptionsFault) → FaultAt items fault → o ≡ drop at m → AreItems items → BeginsWith o 0 items n → OptionListAnswers m at (Err fault)
+by_fault : (m o : List ℕ) (at n : ℕ) (items : List OptionItem) (fault : OptionsFault) → FaultAt items fault → o ≡ drop at m → AreItems items → BeginsWith o 0 items n
+    → OptionListAnswers m at (Err fault)
 by_fault m o at n items Cut found e are whole = absurd (never_cut found.item found.fault_is)
 by_fault m o at n items NoMemory found e are whole = absurd (never_memory found.item found.fault_is)
 by_fault m o at n items BadKind found e are whole =
@@ -169,7 +177,10 @@ bad_shape_if m at (Err NoMemory) a first = absurd (options_or_fault m at a.0 a.1
 -- the octets of a list, alone, begin with it
 pub begins_alone : (list : List OptionItem) (o : List ℕ) → SpellsOptions list o → BeginsWith o 0 list (length o)
 begins_alone list o spells =
-    record { spelling = spells.spelling ∙ sym (append-nil (spelling_of list)) ∙ ap (λ (l : List ℕ). spelling_of list ++ l) (sym (drop_all (length o) o (omega arith))); place = omega (arith, ap length spells.spelling) }
+    record {
+      spelling = spells.spelling ∙ sym (append-nil (spelling_of list)) ∙ ap (λ (l : List ℕ). spelling_of list ++ l) (sym (drop_all (length o) o (omega arith)));
+      place = omega (arith, ap length spells.spelling);
+    }
 
 -- what is answered there is the list, or memory ran out
 pub read_back : (list again : List OptionItem) (end : ℕ) (o : List ℕ) → SpellsOptions list o → AreOptions again → BeginsWith o 0 again end → again ≡ list

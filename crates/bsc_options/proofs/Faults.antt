@@ -1,4 +1,5 @@
 -- The first item at fault: it has no shape, those before it have one, and no other item is so.
+-- It serves clauses of functions of `checking`, `laws` and `reading`.
 use Rattle.std.proofs.Common.{◌≡◌, ◌≢◌, Bool, true, false, eqb, cond, List, [], ◌∷◌, ◌++◌, Option, Some, None, refl, ap, ◌∙◌}
 use Rattle.std.specs.List.{AllByRecursion}
 use Rattle.std.specs.Option.{option_or}
@@ -81,7 +82,14 @@ split : (x : OptionItem) (xs : List OptionItem) (fault : OptionsFault) (own : Op
     → (first_fault xs ≡ Some fault → FaultAt xs fault) → FaultAt (x ∷ xs) fault
 split x xs fault None fits e first later =
     let found = later first in
-    record { before = x ∷ found.before; item = found.item; after = found.after; parts = ap (λ (l : List OptionItem). x ∷ l) found.parts; earlier = (sound_has_shape x fits e, found.earlier); fault_is = found.fault_is }
+    record {
+      before = x ∷ found.before;
+      item = found.item;
+      after = found.after;
+      parts = ap (λ (l : List OptionItem). x ∷ l) found.parts;
+      earlier = (sound_has_shape x fits e, found.earlier);
+      fault_is = found.fault_is;
+    }
 split x xs fault (Some own) fits e first later =
     record { before = []; item = x; after = xs; parts = refl; earlier = tt; fault_is = e ∙ first }
 
@@ -105,7 +113,8 @@ pub shape_within : (before : List OptionItem) (item : OptionItem) (after : List 
 shape_within [] item after all = all.0
 shape_within (x ∷ before) item after all = shape_within before item after all.1
 
-pub one_first : (before other : List OptionItem) (x y : OptionItem) (after rest : List OptionItem) → AllByRecursion HasShape before → AllByRecursion HasShape other → (HasShape x → ⊥) → (HasShape y → ⊥)
+pub one_first : (before other : List OptionItem) (x y : OptionItem) (after rest : List OptionItem) → AllByRecursion HasShape before → AllByRecursion HasShape other → (HasShape x → ⊥)
+    → (HasShape y → ⊥)
     → before ++ x ∷ after ≡ other ++ y ∷ rest → x ≡ y
 one_first [] [] x y after rest all others bad worse e = cc
 one_first [] (z ∷ other) x y after rest all others bad worse e = let same : x ≡ z = cc in absurd (bad (rw same others.0))

@@ -1,4 +1,5 @@
 -- The marker: its bits are tested, put together, and found again.
+-- It serves clauses of functions of `checking`, `first`, `laws` and `reading`.
 use Rattle.std.proofs.Common.{◌≡◌, ℕ, ◌+◌, ◌*◌, ◌/◌, ◌%◌, ◌<◌, ◌≤◌, Bool, true, false, eqb, is_some, refl, ◌∙◌, arith}
 use Rattle.std.specs.Prelude.{bit_and}
 use Rattle.std.proofs.lemmas.Nat.Bits.{and_pow, and_high}

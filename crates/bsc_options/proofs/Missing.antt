@@ -1,4 +1,5 @@
 -- Octets are missing: of data, and of an item.
+-- It serves the clauses of `first_data` and `first_item`.
 use Rattle.std.proofs.Common.{◌≡◌, ℕ, ◌-◌, ◌/◌, ◌%◌, ◌<◌, ◌≤◌, Bool, true, false, eqb, List, [], ◌∷◌, ◌++◌, length, get_or, take, drop, replicate, Some, None, refl, sym, ap, ◌∙◌, arith, length-append}
 use Rattle.std.proofs.lemmas.List.{length-replicate}
 use Rattle.byteorder.specs.Endian.{big_bytes, big_number}
@@ -51,7 +52,14 @@ cut_length announced (x ∷ y ∷ rest) there two octets = absurd (omega arith)
 
 -- no marker
 pub cut_marker : IsCutItem []
-cut_marker = record { follows = false; item = record { must = false; kind = 1; content = None }; missing = 1 ∷ []; fits = record { kind = omega arith; content = tt }; some = omega arith; spelling = refl }
+cut_marker = record {
+  follows = false;
+  item = record { must = false; kind = 1; content = None };
+  missing = 1 ∷ [];
+  fits = record { kind = omega arith; content = tt };
+  some = omega arith;
+  spelling = refl;
+}
 
 -- a marker, and not all of the data that it announces
 pub cut_item : (o : List ℕ) (marker : ℕ) (rest : List ℕ) → ((i : ℕ) → get_or o i 0 < 256) → o ≡ marker ∷ rest → IsCutData (eqb (marker / 32 % 2) 1) rest → IsCutItem o

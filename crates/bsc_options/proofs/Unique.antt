@@ -1,4 +1,5 @@
 -- No spelling begins another: the octets of an item, and of a list, say which it is and where it ends.
+-- It serves clauses of functions of `checking`, `laws` and `reading`.
 use Rattle.std.proofs.Common.{◌≡◌, ℕ, ◌<◌, Bool, true, false, List, [], ◌∷◌, ◌++◌, length, get_or, take, drop, Option, Some, None, is_some, refl, sym, ap, ◌∙◌, append_assoc, arith}
 use Rattle.std.specs.List.{AllByRecursion}
 use Rattle.std.proofs.lemmas.List.{take_at, drop_at}
@@ -47,11 +48,13 @@ one_list (x ∷ []) (y ∷ []) r s fits others some more e =
     let first = one_item false false x y ([] ++ r) ([] ++ s) fits.0 others.0 (sym (append_assoc (item_octets false x) [] r) ∙ e ∙ append_assoc (item_octets false y) [] s) in
     (ap (λ (i : OptionItem). i ∷ []) first.1, first.2)
 one_list (x ∷ []) (y ∷ z ∷ ys) r s fits others some more e =
-    let first = one_item false true x y ([] ++ r) (spelling_of (z ∷ ys) ++ s) fits.0 others.0 (sym (append_assoc (item_octets false x) [] r) ∙ e ∙ append_assoc (item_octets true y) (spelling_of (z ∷ ys)) s) in
+    let first = one_item false true x y ([] ++ r) (spelling_of (z ∷ ys) ++ s) fits.0 others.0
+    (sym (append_assoc (item_octets false x) [] r) ∙ e ∙ append_assoc (item_octets true y) (spelling_of (z ∷ ys)) s) in
     let differ : false ≡ true = first.0 in
     absurd cc
 one_list (x ∷ w ∷ xs) (y ∷ []) r s fits others some more e =
-    let first = one_item true false x y (spelling_of (w ∷ xs) ++ r) ([] ++ s) fits.0 others.0 (sym (append_assoc (item_octets true x) (spelling_of (w ∷ xs)) r) ∙ e ∙ append_assoc (item_octets false y) [] s) in
+    let first = one_item true false x y (spelling_of (w ∷ xs) ++ r) ([] ++ s) fits.0 others.0
+    (sym (append_assoc (item_octets true x) (spelling_of (w ∷ xs)) r) ∙ e ∙ append_assoc (item_octets false y) [] s) in
     let differ : true ≡ false = first.0 in
     absurd cc
 one_list (x ∷ w ∷ xs) (y ∷ z ∷ ys) r s fits others some more e =

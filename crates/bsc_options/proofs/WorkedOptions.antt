@@ -1,4 +1,5 @@
 -- Lists written out in octets, with what the definitions make of them.
+-- No clause needs it: worked examples.
 use Rattle.std.proofs.Common.{◌≡◌, ℕ, true, false, List, [], ◌∷◌, Some, None, refl, arith}
 use Rattle.bsc_options.specs.declared.item.OptionItem.{OptionItem}
 use Rattle.bsc_options.specs.Spelling.{HasShape, SpellsOptions, spelling_of}

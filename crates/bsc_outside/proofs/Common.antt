@@ -1,4 +1,5 @@
 -- Lemmas that crates above cite too.
+-- It serves many crates above.
 use Rattle.bsc_outside.specs.Faults.{HasRisen, PutsPrefix}
 use Rattle.std.proofs.Common.{⊎_elim, arith, inr, inl, ◌≤◌, ◌<◌, ℕ, Option, subst, sym, length, List}
 use Rattle.std.proofs.lemmas.List.{take_all}

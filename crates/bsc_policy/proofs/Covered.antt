@@ -1,5 +1,7 @@
 -- What rules cover of a group they cover of the name of its class, and so the same rule is the first that applies.
-use Rattle.std.proofs.Common.{◌≡◌, ◌+◌, ℕ, Bool, true, false, cond, not, ◌&&◌, ◌||◌, nat_eq, nat_lt, List, [], ◌∷◌, codes, find, length, slice_get, unwrap_or, Option, Some, None, refl, ap, ap₂, sym, subst, ◌∙◌, arith, ltb-true, ltb-false}
+-- It serves the clauses of `make`.
+use Rattle.std.proofs.Common.{◌≡◌, ◌+◌, ℕ, Bool, true, false, cond, not, ◌&&◌, ◌||◌, nat_eq, nat_lt, List, [], ◌∷◌, codes, find, length, slice_get, unwrap_or, Option, Some, None}
+use Rattle.std.proofs.Common.{refl, ap, ap₂, sym, subst, ◌∙◌, arith, ltb-true, ltb-false}
 use Rattle.std.specs.Cmp.Lexicographic.{pointwise, bytes_decides}
 use Rattle.std.specs.List.{position_or_len}
 use Rattle.std.proofs.lemmas.List.Folds.{find_at}
@@ -40,7 +42,8 @@ found : (names : List (List ℕ)) (group name : List ℕ) → find (λ n. pointw
 found [] group name is = cc
 found (x ∷ names) group name is = by (found names group name) (pointwise nat_eq x group) refl is
   where
-    by : (find (λ n. pointwise nat_eq n group) names ≡ Some name → name ≡ group) → (b : Bool) → pointwise nat_eq x group ≡ b → cond b (Some x) (find (λ n. pointwise nat_eq n group) names) ≡ Some name → name ≡ group
+    by : (find (λ n. pointwise nat_eq n group) names ≡ Some name → name ≡ group) → (b : Bool) → pointwise nat_eq x group ≡ b
+        → cond b (Some x) (find (λ n. pointwise nat_eq n group) names) ≡ Some name → name ≡ group
     by rest true same is = let here = (bytes_decides x group).0 same in cc
     by rest false other is = rest is
 

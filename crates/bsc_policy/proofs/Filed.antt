@@ -1,5 +1,7 @@
 -- Classes that are filed under addresses, member by member.
-use Rattle.std.proofs.Common.{◌≡◌, ◌≤◌, ◌<◌, ◌+◌, ℕ, suc, Bool, true, false, cond, if◌then◌else◌, nat_eq, List, [], ◌∷◌, ◌++◌, length, take, get_or, find, option_map, Option, Some, None, is_some, HashMap, refl, ap, ap₂, sym, ◌∙◌, arith, take-suc, take_all}
+-- It serves the clauses of `file` and `make`.
+use Rattle.std.proofs.Common.{◌≡◌, ◌≤◌, ◌<◌, ◌+◌, ℕ, suc, Bool, true, false, cond, if◌then◌else◌, nat_eq, List, [], ◌∷◌, ◌++◌, length, take, get_or, find, option_map, Option, Some}
+use Rattle.std.proofs.Common.{None, is_some, HashMap, refl, ap, ap₂, sym, ◌∙◌, arith, take-suc, take_all}
 use Rattle.std.specs.Cmp.Lexicographic.{pointwise, bytes_decides}
 use Rattle.std.specs.HashMap.{get_by}
 use Rattle.std.specs.Option.{option_or}
@@ -38,7 +40,8 @@ pub filed_kept : {S : Type 0} (filed : HashMap Key Classes S) (w : Vmac) (classe
 filed_kept filed w classes is = λ v. kept (filed_at filed v) (same_vmac w v) classes (λ same. ap is_some (same_filed filed w v same) ∙ is)
 
 -- none are, and then these
-pub filed_now : {S : Type 0} (old new : HashMap Key Classes S) (w : Vmac) (classes : Classes) → is_some (filed_at old w) ≡ false → ((v : Vmac) → filed_at new v ≡ cond (same_vmac w v) (Some classes) (filed_at old v)) → Files old new w classes
+pub filed_now : {S : Type 0} (old new : HashMap Key Classes S) (w : Vmac) (classes : Classes) → is_some (filed_at old w) ≡ false
+    → ((v : Vmac) → filed_at new v ≡ cond (same_vmac w v) (Some classes) (filed_at old v)) → Files old new w classes
 filed_now old new w classes none updates = λ v. fresh (filed_at new v) (filed_at old v) (same_vmac w v) classes (updates v) (λ same. same_filed old w v same ∙ none_from (filed_at old w) none)
 
 -- ---- a member more
@@ -51,7 +54,8 @@ of_member names m = classes_of names m.group
 abbrev pub FiledTo : {S : Type 0} → ℕ → List Member → Names → HashMap Key Classes S → Type 0
 FiledTo i members names filed = (v : Vmac) → filed_at filed v ≡ option_map (of_member names) (find (λ m. same_vmac m.vmac v) (take i members))
 
-next : (names : Names) (o : Option Member) (m : Member) (b : Bool) → option_or (option_map (of_member names) o) (cond b (Some (of_member names m)) None) ≡ option_map (of_member names) (option_or o (cond b (Some m) None))
+next : (names : Names) (o : Option Member) (m : Member) (b : Bool) → option_or (option_map (of_member names) o) (cond b (Some (of_member names m)) None)
+    ≡ option_map (of_member names) (option_or o (cond b (Some m) None))
 next names (Some x) m b = refl
 next names None m true = refl
 next names None m false = refl

@@ -1,4 +1,5 @@
 -- The names of classes: `*` is the first of them, what the rules have on the side is among them, and they are few.
+-- It serves the clauses of `make`.
 use Rattle.std.proofs.Common.{◌≡◌, ◌≤◌, ◌+◌, ℕ, Bool, true, false, ◌||◌, if◌then◌else◌, nat_eq, List, [], ◌∷◌, ◌++◌, codes, fold, length, map, slice_get, Some, refl, ap, ◌∙◌, arith, length-append}
 use Rattle.std.specs.Prelude.{⊤}
 use Rattle.std.specs.Cmp.Lexicographic.{pointwise, bytes_decides}

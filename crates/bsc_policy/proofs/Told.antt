@@ -1,4 +1,5 @@
 -- The numbers of the rules that decide, read off the tables.
+-- It serves the clauses of `make`.
 use Rattle.std.proofs.Common.{◌≡◌, ℕ, List, map, slice_get, option_map, unwrap_or, Option, Some, None, refl, ap, ap₂, sym, ◌∙◌}
 use Rattle.std.proofs.lemmas.Option.{slice_get-map}
 use Rattle.bsc_policy.specs.declared.member.Member.{Member}

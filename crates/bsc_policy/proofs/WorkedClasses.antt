@@ -1,4 +1,5 @@
 -- Classes of groups by names written out, by computation.
+-- No clause needs it: worked examples.
 use Rattle.std.proofs.Common.{◌≡◌, ℕ, List, [], ◌∷◌, codes, refl}
 use Rattle.bsc_policy.specs.Classes.{class_of, names_of}
 

@@ -1,4 +1,5 @@
 -- Decisions over members and rules written out, by computation.
+-- No clause needs it: worked examples.
 use Rattle.std.proofs.Common.{◌≡◌, ℕ, true, false, List, [], ◌∷◌, Some, None, codes, position, replicate, refl}
 use Rattle.bsc_octets.specs.declared.device_id.DeviceId.{DeviceId}
 use Rattle.bsc_octets.specs.declared.identity.Identity.{Identity}

@@ -1,5 +1,7 @@
 -- Entries by their VMACs, in a list that a call changed.
-use Rattle.std.proofs.Common.{◌≡◌, ◌<◌, ◌+◌, ℕ, zero, suc, Bool, true, false, cond, ◌||◌, List, [], ◌∷◌, ◌++◌, length, map, filter, take, drop, get_or, find, Option, Some, None, is_some, refl, ap, sym, ◌∙◌, subst, arith}
+-- It serves clauses of functions of `entries`, `laws` and `resolve`.
+use Rattle.std.proofs.Common.{◌≡◌, ◌<◌, ◌+◌, ℕ, zero, suc, Bool, true, false, cond, ◌||◌, List, [], ◌∷◌, ◌++◌, length, map, filter, take, drop, get_or, find, Option, Some, None}
+use Rattle.std.proofs.Common.{is_some, refl, ap, sym, ◌∙◌, subst, arith}
 use Rattle.std.specs.Option.{option_map}
 use Rattle.std.specs.List.{list_any, list_all, position, AllByRecursion, IsDistinct}
 use Rattle.std.proofs.Math.ListN.{set}
@@ -20,7 +22,8 @@ use Rattle.bsc_lemmas.proofs.Lists.{position-none as none_found}
 
 -- ---- places
 
-at_place : {A : Type 0} (test : A → Bool) (f : A → A) (xs : List A) (i : ℕ) (d : A) → i < length xs → test (get_or xs i d) ≡ true → ((k : ℕ) → k < i → test (get_or xs k d) ≡ false) → at_first test f xs ≡ set xs i (f (get_or xs i d))
+at_place : {A : Type 0} (test : A → Bool) (f : A → A) (xs : List A) (i : ℕ) (d : A) → i < length xs → test (get_or xs i d) ≡ true → ((k : ℕ) → k < i → test (get_or xs k d) ≡ false)
+    → at_first test f xs ≡ set xs i (f (get_or xs i d))
 at_place test f [] i d within here before = absurd (omega arith)
 at_place test f (x ∷ xs) zero d within here before = rw here refl
 at_place test f (x ∷ xs) (suc i) d within here before = rw (before 0 (omega arith)) (ap (λ l. x ∷ l) (at_place test f xs i d (omega arith) here (λ k h. before (suc k) (omega arith))))
@@ -29,7 +32,8 @@ at_place test f (x ∷ xs) (suc i) d within here before = rw (before 0 (omega ar
 pub set_first : {A : Type 0} (test : A → Bool) (f : A → A) (xs : List A) (i : ℕ) (e : A) → position test xs ≡ Some i → e ≡ get_or xs i e → set xs i (f e) ≡ at_first test f xs
 set_first test f xs i e place at = let q = position-Some test xs i e place in ap (λ y. set xs i (f y)) at ∙ sym (at_place test f xs i e q.0 q.1 q.2)
 
-find_here : {A : Type 0} (test : A → Bool) (xs : List A) (i : ℕ) (e : A) → i < length xs → test (get_or xs i e) ≡ true → ((k : ℕ) → k < i → test (get_or xs k e) ≡ false) → e ≡ get_or xs i e → find test xs ≡ Some e
+find_here : {A : Type 0} (test : A → Bool) (xs : List A) (i : ℕ) (e : A) → i < length xs → test (get_or xs i e) ≡ true → ((k : ℕ) → k < i → test (get_or xs k e) ≡ false) → e ≡ get_or xs i e
+    → find test xs ≡ Some e
 find_here test [] i e within here before at = absurd (omega arith)
 find_here test (x ∷ xs) zero e within here before at = rw here (ap Some (sym at))
 find_here test (x ∷ xs) (suc i) e within here before at = rw (before 0 (omega arith)) (find_here test xs i e (omega arith) here (λ k h. before (suc k) (omega arith)) at)
@@ -47,7 +51,8 @@ pub first_same : (f : Entry → Entry) (w : Vmac) (es : List Entry) → KeepsVma
 first_same f w [] keeps = refl
 first_same f w (x ∷ es) keeps = by (is_for w x) refl (first_same f w es keeps)
   where
-    by : (b : Bool) → is_for w x ≡ b → entry_of (at_first (is_for w) f es) w ≡ option_map f (entry_of es w) → find (is_for w) (cond b (f x ∷ es) (x ∷ at_first (is_for w) f es)) ≡ option_map f (cond b (Some x) (entry_of es w))
+    by : (b : Bool) → is_for w x ≡ b → entry_of (at_first (is_for w) f es) w ≡ option_map f (entry_of es w)
+        → find (is_for w) (cond b (f x ∷ es) (x ∷ at_first (is_for w) f es)) ≡ option_map f (cond b (Some x) (entry_of es w))
     by true s r = rw (ap (same_vmac w) (keeps x) ∙ s) refl
     by false s r = rw s r
 
@@ -70,7 +75,8 @@ vmacs_first test f (x ∷ es) keeps = by (test x) (vmacs_first test f es keeps)
     by true r = ap (λ v. v ∷ vmacs es) (keeps x)
     by false r = ap (λ vs. x.vmac ∷ vs) r
 
-pub full_first : (test : Entry → Bool) (f : Entry → Entry) (es : List Entry) → ((e : Entry) → holds_something (f e) ≡ true) → list_all holds_something es ≡ true → list_all holds_something (at_first test f es) ≡ true
+pub full_first : (test : Entry → Bool) (f : Entry → Entry) (es : List Entry) → ((e : Entry) → holds_something (f e) ≡ true) → list_all holds_something es ≡ true
+    → list_all holds_something (at_first test f es) ≡ true
 full_first test f [] holds h = refl
 full_first test f (x ∷ es) holds h = by (test x) (full_first test f es holds (both_true (holds_something x) (list_all holds_something es) h).1)
   where
@@ -96,7 +102,8 @@ entry_filtered v (x ∷ es) d = by (is_for v x) (holds_something x) refl refl (e
     gone : is_for v x ≡ true → entry_of es v ≡ None
     gone s = none_apart v es (subst (λ w. AllByRecursion (λ u. same_vmac w u ≡ false) (vmacs es)) (sym (vmac_same v x.vmac s)) (IsDistinct-head same_vmac x.vmac (vmacs es) d))
 
-    by : (b h : Bool) → is_for v x ≡ b → holds_something x ≡ h → entry_of (filter holds_something es) v ≡ if_held (entry_of es v) → find (is_for v) (cond h (x ∷ filter holds_something es) (filter holds_something es)) ≡ if_held (cond b (Some x) (entry_of es v))
+    by : (b h : Bool) → is_for v x ≡ b → holds_something x ≡ h → entry_of (filter holds_something es) v ≡ if_held (entry_of es v)
+        → find (is_for v) (cond h (x ∷ filter holds_something es) (filter holds_something es)) ≡ if_held (cond b (Some x) (entry_of es v))
     by true true s k r = rw (s, k) refl
     by true false s k r = rw k (r ∙ ap if_held (gone s))
     by false true s k r = rw s r
@@ -122,7 +129,8 @@ pub full_filtered : (es : List Entry) → list_all holds_something (filter holds
 full_filtered [] = refl
 full_filtered (x ∷ es) = by (holds_something x) refl (full_filtered es)
   where
-    by : (b : Bool) → holds_something x ≡ b → list_all holds_something (filter holds_something es) ≡ true → list_all holds_something (cond b (x ∷ filter holds_something es) (filter holds_something es)) ≡ true
+    by : (b : Bool) → holds_something x ≡ b → list_all holds_something (filter holds_something es) ≡ true
+        → list_all holds_something (cond b (x ∷ filter holds_something es) (filter holds_something es)) ≡ true
     by true h r = rw h r
     by false h r = r
 
@@ -148,7 +156,8 @@ pub entry_ticked : (wait now : ℕ) (v : Vmac) (es : List Entry) → entry_of (m
 entry_ticked wait now v [] = refl
 entry_ticked wait now v (x ∷ es) = by (is_for v x) (entry_ticked wait now v es)
   where
-    by : (b : Bool) → entry_of (map (ticked wait now) es) v ≡ option_map (ticked wait now) (entry_of es v) → cond b (Some (ticked wait now x)) (entry_of (map (ticked wait now) es) v) ≡ option_map (ticked wait now) (cond b (Some x) (entry_of es v))
+    by : (b : Bool) → entry_of (map (ticked wait now) es) v ≡ option_map (ticked wait now) (entry_of es v)
+        → cond b (Some (ticked wait now x)) (entry_of (map (ticked wait now) es) v) ≡ option_map (ticked wait now) (cond b (Some x) (entry_of es v))
     by true h = refl
     by false h = h
 
@@ -168,13 +177,15 @@ ticked_uris wait now (Some e) = refl
 abbrev pub front_ticked : ℕ → ℕ → ℕ → List Entry → List Entry
 front_ticked wait now n es = map (ticked wait now) (take n es) ++ drop n es
 
-set_ticked : (wait now : ℕ) (es : List Entry) (n : ℕ) (e : Entry) → n < length es → set (front_ticked wait now n es) n (ticked wait now (get_or (front_ticked wait now n es) n e)) ≡ front_ticked wait now (suc n) es
+set_ticked : (wait now : ℕ) (es : List Entry) (n : ℕ) (e : Entry) → n < length es
+    → set (front_ticked wait now n es) n (ticked wait now (get_or (front_ticked wait now n es) n e)) ≡ front_ticked wait now (suc n) es
 set_ticked wait now [] n e within = absurd (omega arith)
 set_ticked wait now (x ∷ es) zero e within = refl
 set_ticked wait now (x ∷ es) (suc n) e within = ap (λ (l : List Entry). ticked wait now x ∷ l) (set_ticked wait now es n e (omega arith))
 
 -- the one at the place n was told
-pub tick_next : (wait now : ℕ) (old es : List Entry) (n : ℕ) (e new : Entry) → n < length old → es ≡ front_ticked wait now n old → new ≡ ticked wait now (get_or es n e) → set es n new ≡ front_ticked wait now (n + 1) old
+pub tick_next : (wait now : ℕ) (old es : List Entry) (n : ℕ) (e new : Entry) → n < length old → es ≡ front_ticked wait now n old → new ≡ ticked wait now (get_or es n e)
+    → set es n new ≡ front_ticked wait now (n + 1) old
 tick_next wait now old es n e new within same is =
     ap (λ (x : Entry). set es n x) is
     ∙ subst (λ (l : List Entry). set l n (ticked wait now (get_or l n e)) ≡ front_ticked wait now (suc n) old) (sym same) (set_ticked wait now old n e within)
@@ -195,7 +206,8 @@ pub is_held_kept : (v : Vmac) (es : List Entry) → list_all holds_something es 
 is_held_kept v [] h = refl
 is_held_kept v (x ∷ es) h = by (is_for v x) (is_held_kept v es (both_true (holds_something x) (list_all holds_something es) h).1)
   where
-    by : (b : Bool) → is_some (entry_of es v) ≡ (is_some (kept_question (entry_of es v)) || is_some (kept_uris (entry_of es v))) → is_some (cond b (Some x) (entry_of es v)) ≡ (is_some (kept_question (cond b (Some x) (entry_of es v))) || is_some (kept_uris (cond b (Some x) (entry_of es v))))
+    by : (b : Bool) → is_some (entry_of es v) ≡ (is_some (kept_question (entry_of es v)) || is_some (kept_uris (entry_of es v)))
+        → is_some (cond b (Some x) (entry_of es v)) ≡ (is_some (kept_question (cond b (Some x) (entry_of es v))) || is_some (kept_uris (cond b (Some x) (entry_of es v))))
     by true r = sym (both_true (holds_something x) (list_all holds_something es) h).0
     by false r = r
 

@@ -1,5 +1,7 @@
 -- What is kept goes on standing for what happened.
-use Rattle.std.proofs.Common.{◌≡◌, ◌<◌, ◌≤◌, ◌==◌, ℕ, Bool, true, false, not, cond, ◌||◌, ◌&&◌, List, [], ◌∷◌, ◌++◌, length, map, filter, get_or, Option, Some, None, is_some, refl, ap, sym, ◌∙◌, subst, arith}
+-- It serves clauses of functions of `laws` and `resolve`.
+use Rattle.std.proofs.Common.{◌≡◌, ◌<◌, ◌≤◌, ◌==◌, ℕ, Bool, true, false, not, cond, ◌||◌, ◌&&◌, List, [], ◌∷◌, ◌++◌, length, map, filter, get_or, Option, Some, None, is_some, refl}
+use Rattle.std.proofs.Common.{ap, sym, ◌∙◌, subst, arith}
 use Rattle.std.specs.Prelude.{nat_le, vec_len}
 use Rattle.std.specs.Option.{option_map, option_or}
 use Rattle.std.specs.List.{list_all, position, filter_map, IsDistinct}
@@ -21,7 +23,8 @@ use Rattle.bsc_resolve.specs.declared.resolve.Resolve.{Resolve}
 use Rattle.bsc_resolve.specs.Resolving.{vmac_of, uris_for, question, learnt, is_held, held, ask_refusal, has_id, awaits}
 use Rattle.bsc_resolve.specs.Kept.{is_for, entry_of, vmacs, kept_question, kept_uris, holds_something, at_first, ticked, unless_passed, with_question, with_uris, without_question, awaiting_place}
 use Rattle.bsc_resolve.specs.Standing.{Agrees, ResolveStands, IsAsked, IsAskRefused, AnswersAnswer, AnswersRefusal, StandsOn, IsUnchanged}
-use Rattle.bsc_resolve.proofs.Finding.{find_placed, awaiting_is, awaiting_none, KeepsVmac, first_same, first_other, vmacs_first, full_first, entry_filtered, apart_filtered, full_filtered, held_question, held_uris, entry_ticked, vmacs_ticked, ticked_question, ticked_uris, is_among, is_held_kept, length_vmacs}
+use Rattle.bsc_resolve.proofs.Finding.{find_placed, awaiting_is, awaiting_none, KeepsVmac, first_same, first_other, vmacs_first, full_first, entry_filtered, apart_filtered}
+use Rattle.bsc_resolve.proofs.Finding.{full_filtered, held_question, held_uris, entry_ticked, vmacs_ticked, ticked_question, ticked_uris, is_among, is_held_kept, length_vmacs}
 use Rattle.bsc_resolve.proofs.OneMore.{unless_ends, question-more, question-asked, learnt-more, held_spoken}
 use Rattle.bsc_octets.proofs.Common.{vmac_laws, vmac_same}
 use Rattle.bsc_lemmas.proofs.Booleans.{or_left}
@@ -66,8 +69,10 @@ sets_pushed w es q u none =
 -- letting go of entries that hold nothing changes nothing
 sets_left : (es after : List Entry) (w : Vmac) (q : Option Question) (u : Option (List ℕ)) → IsDistinct same_vmac (vmacs after) → SetsAt es after w q u → SetsAt es (filter holds_something after) w q u
 sets_left es after w q u apart k =
-    let left_question : (v : Vmac) → kept_question (entry_of (filter holds_something after) v) ≡ kept_question (entry_of after v) = λ v. ap kept_question (entry_filtered v after apart) ∙ held_question (entry_of after v) in
-    let left_uris : (v : Vmac) → kept_uris (entry_of (filter holds_something after) v) ≡ kept_uris (entry_of after v) = λ v. ap kept_uris (entry_filtered v after apart) ∙ held_uris (entry_of after v) in
+    let left_question : (v : Vmac) → kept_question (entry_of (filter holds_something after) v) ≡ kept_question (entry_of after v) = λ v. ap kept_question (entry_filtered v after apart)
+    ∙ held_question (entry_of after v) in
+    let left_uris : (v : Vmac) → kept_uris (entry_of (filter holds_something after) v) ≡ kept_uris (entry_of after v) = λ v. ap kept_uris (entry_filtered v after apart)
+    ∙ held_uris (entry_of after v) in
     record {
       question = left_question w ∙ k.question;
       uris = left_uris w ∙ k.uris;
@@ -97,7 +102,8 @@ each P w here others v = by (same_vmac v w) refl
     by true s = subst P (sym (vmac_same v w s)) here
     by false n = others v n
 
-asked_agrees : (es after : List Entry) (wait : ℕ) (calls : List ResolveCall) (now id : ℕ) (w : Vmac) → Agrees es wait calls → SetsAt es after w (Some (record { id = id; asked = now })) (kept_uris (entry_of es w)) → Agrees after wait (calls ++ Ask now id w ∷ [])
+asked_agrees : (es after : List Entry) (wait : ℕ) (calls : List ResolveCall) (now id : ℕ) (w : Vmac) → Agrees es wait calls
+    → SetsAt es after w (Some (record { id = id; asked = now })) (kept_uris (entry_of es w)) → Agrees after wait (calls ++ Ask now id w ∷ [])
 asked_agrees es after wait calls now id w a k =
     let call : ResolveCall = Ask now id w in
     let asked : Question = record { id = id; asked = now } in
@@ -110,7 +116,8 @@ asked_agrees es after wait calls now id w a k =
           (λ v n. k.other_uris v n ∙ a.uris v ∙ sym (learnt-more calls call v));
     }
 
-answered_agrees : (es after : List Entry) (wait : ℕ) (calls : List ResolveCall) (id : ℕ) (w : Vmac) (uris : List ℕ) (q : Question) → Agrees es wait calls → kept_question (entry_of es w) ≡ Some q → (q.id == id) ≡ true → SetsAt es after w None (Some uris) → Agrees after wait (calls ++ Answered id w uris ∷ [])
+answered_agrees : (es after : List Entry) (wait : ℕ) (calls : List ResolveCall) (id : ℕ) (w : Vmac) (uris : List ℕ) (q : Question) → Agrees es wait calls
+    → kept_question (entry_of es w) ≡ Some q → (q.id == id) ≡ true → SetsAt es after w None (Some uris) → Agrees after wait (calls ++ Answered id w uris ∷ [])
 answered_agrees es after wait calls id w uris q a had same k =
     let call : ResolveCall = Answered id w uris in
     record {
@@ -122,7 +129,8 @@ answered_agrees es after wait calls id w uris q a had same k =
           (λ v n. k.other_uris v n ∙ a.uris v ∙ sym (learnt-more calls call v ∙ ap (λ (b : Bool). option_or (cond b (Some uris) None) (learnt calls v)) n));
     }
 
-refused_agrees : (es after : List Entry) (wait : ℕ) (calls : List ResolveCall) (id : ℕ) (w : Vmac) (q : Question) → Agrees es wait calls → kept_question (entry_of es w) ≡ Some q → (q.id == id) ≡ true → SetsAt es after w None (kept_uris (entry_of es w)) → Agrees after wait (calls ++ Refused id w ∷ [])
+refused_agrees : (es after : List Entry) (wait : ℕ) (calls : List ResolveCall) (id : ℕ) (w : Vmac) (q : Question) → Agrees es wait calls → kept_question (entry_of es w) ≡ Some q
+    → (q.id == id) ≡ true → SetsAt es after w None (kept_uris (entry_of es w)) → Agrees after wait (calls ++ Refused id w ∷ [])
 refused_agrees es after wait calls id w q a had same k =
     let call : ResolveCall = Refused id w in
     record {
@@ -138,7 +146,8 @@ passes_as_ended : (wait now : ℕ) (v : Vmac) (o : Option Question) → unless_p
 passes_as_ended wait now v None = refl
 passes_as_ended wait now v (Some q) = refl
 
-ticked_agrees : (es : List Entry) (wait : ℕ) (calls : List ResolveCall) (now : ℕ) → IsDistinct same_vmac (vmacs es) → Agrees es wait calls → Agrees (filter holds_something (map (ticked wait now) es)) wait (calls ++ Tick now ∷ [])
+ticked_agrees : (es : List Entry) (wait : ℕ) (calls : List ResolveCall) (now : ℕ) → IsDistinct same_vmac (vmacs es) → Agrees es wait calls
+    → Agrees (filter holds_something (map (ticked wait now) es)) wait (calls ++ Tick now ∷ [])
 ticked_agrees es wait calls now apart a =
     let told = map (ticked wait now) es in
     let told_apart : IsDistinct same_vmac (vmacs told) = subst (IsDistinct same_vmac) (sym (vmacs_ticked wait now es)) apart in
@@ -157,7 +166,8 @@ ticked_agrees es wait calls now apart a =
 -- ---- how many VMACs are held
 
 held_by : (r : Resolve) (wait : ℕ) (calls : List ResolveCall) (v : Vmac) → ResolveStands r wait calls → is_some (entry_of r.entries.items v) ≡ is_held wait calls v
-held_by r wait calls v s = is_held_kept v r.entries.items s.full ∙ ap (λ (o : Option Question). is_some o || is_some (kept_uris (entry_of r.entries.items v))) (s.agrees.question v) ∙ ap (λ (o : Option (List ℕ)). is_some (question wait calls v) || is_some o) (s.agrees.uris v)
+held_by r wait calls v s = is_held_kept v r.entries.items s.full ∙ ap (λ (o : Option Question). is_some o || is_some (kept_uris (entry_of r.entries.items v))) (s.agrees.question v)
+    ∙ ap (λ (o : Option (List ℕ)). is_some (question wait calls v) || is_some o) (s.agrees.uris v)
 
 held_alike : (wait : ℕ) (calls : List ResolveCall) (v w : Vmac) → same_vmac v w ≡ true → is_held wait calls v ≡ is_held wait calls w
 held_alike wait calls v w h = ap (is_held wait calls) (vmac_same v w h)
@@ -194,27 +204,33 @@ asked_again old new v place e now id placed at none waits items wait calls s =
       record {
         waits = waits ∙ s.waits;
         agrees = subst (λ l. Agrees l wait (calls ++ Ask now id v ∷ [])) (sym items)
-            (asked_agrees es after wait calls now id v s.agrees (subst (λ u. SetsAt es after v (Some (record { id = id; asked = now })) u) (sym (ap kept_uris found)) (sets_first f v es e (λ x. refl) found)));
+            (asked_agrees es after wait calls now id v s.agrees (subst (λ u. SetsAt es after v (Some (record { id = id; asked = now })) u) (sym (ap kept_uris found))
+            (sets_first f v es e (λ x. refl) found)));
         apart = subst (λ l. IsDistinct same_vmac (vmacs l)) (sym items) (subst (IsDistinct same_vmac) (sym (vmacs_first (is_for v) f es (λ x. refl))) s.apart);
         full = subst (λ l. list_all holds_something l ≡ true) (sym items) (full_first (is_for v) f es (λ x. refl) s.full);
       },
     )
 
 -- an entry with a question
-pub asked_twice : (old : Resolve) (v : Vmac) (place : ℕ) (e : Entry) (q : Question) → position (is_for v) old.entries.items ≡ Some place → e ≡ get_or old.entries.items place e → e.question ≡ Some q → IsAskRefused old v (Pending q.id)
+pub asked_twice : (old : Resolve) (v : Vmac) (place : ℕ) (e : Entry) (q : Question) → position (is_for v) old.entries.items ≡ Some place → e ≡ get_or old.entries.items place e
+    → e.question ≡ Some q → IsAskRefused old v (Pending q.id)
 asked_twice old v place e q placed at some wait calls s =
     let found : entry_of old.entries.items v ≡ Some e = find_placed (is_for v) old.entries.items place e placed at in
     refusal_by old wait calls v s ∙ ap (λ (o : Option Entry). refusal_of (is_some o) (length old.entries.items) (kept_question o)) found ∙ ap (refusal_of true (length old.entries.items)) some
 
 -- no entry
-refusal_without : (old : Resolve) (v : Vmac) (wait : ℕ) (calls : List ResolveCall) → position (is_for v) old.entries.items ≡ None → ResolveStands old wait calls → ask_refusal wait calls v ≡ cond (nat_le ROOM (length old.entries.items)) (Some (Full (length old.entries.items))) None
-refusal_without old v wait calls placed s = refusal_by old wait calls v s ∙ ap (λ (o : Option Entry). refusal_of (is_some o) (length old.entries.items) (kept_question o)) (none_found (is_for v) old.entries.items placed)
+refusal_without : (old : Resolve) (v : Vmac) (wait : ℕ) (calls : List ResolveCall) → position (is_for v) old.entries.items ≡ None → ResolveStands old wait calls
+    → ask_refusal wait calls v ≡ cond (nat_le ROOM (length old.entries.items)) (Some (Full (length old.entries.items))) None
+refusal_without old v wait calls placed s = refusal_by old wait calls v s
+    ∙ ap (λ (o : Option Entry). refusal_of (is_some o) (length old.entries.items) (kept_question o)) (none_found (is_for v) old.entries.items placed)
 
 pub asked_full : (old : Resolve) (v : Vmac) (n : ℕ) → position (is_for v) old.entries.items ≡ None → ROOM ≤ length old.entries.items → n ≡ length old.entries.items → IsAskRefused old v (Full n)
-asked_full old v n placed big same wait calls s = refusal_without old v wait calls placed s ∙ ap (λ (b : Bool). cond b (Some (Full (length old.entries.items))) None) (le-leb ROOM (length old.entries.items) big) ∙ ap (λ (k : ℕ). Some (Full k)) (sym same)
+asked_full old v n placed big same wait calls s = refusal_without old v wait calls placed s
+    ∙ ap (λ (b : Bool). cond b (Some (Full (length old.entries.items))) None) (le-leb ROOM (length old.entries.items) big) ∙ ap (λ (k : ℕ). Some (Full k)) (sym same)
 
 pub asked_in_vain : (old : Resolve) (v : Vmac) → position (is_for v) old.entries.items ≡ None → length old.entries.items < ROOM → IsAskRefused old v NoMemory
-asked_in_vain old v placed small wait calls s = refusal_without old v wait calls placed s ∙ ap (λ (b : Bool). cond b (Some (Full (length old.entries.items))) None) (lt-leb ROOM (length old.entries.items) small)
+asked_in_vain old v placed small wait calls s = refusal_without old v wait calls placed s
+    ∙ ap (λ (b : Bool). cond b (Some (Full (length old.entries.items))) None) (lt-leb ROOM (length old.entries.items) small)
 
 pub asked_first : (old new : Resolve) (v : Vmac) (now id : ℕ) → position (is_for v) old.entries.items ≡ None → length old.entries.items < ROOM → new.wait ≡ old.wait
     → new.entries.items ≡ old.entries.items ++ record { vmac = v; question = Some (record { id = id; asked = now }); uris = None } ∷ [] → IsAsked old new now id v
@@ -315,11 +331,13 @@ time_passes old new now waits items wait calls s =
     record {
       waits = waits ∙ s.waits;
       agrees = subst (λ l. Agrees l wait (calls ++ Tick now ∷ [])) (sym told) (ticked_agrees es wait calls now s.apart s.agrees);
-      apart = subst (λ l. IsDistinct same_vmac (vmacs l)) (sym told) (apart_filtered holds_something (map (ticked wait now) es) (subst (IsDistinct same_vmac) (sym (vmacs_ticked wait now es)) s.apart));
+      apart = subst (λ l. IsDistinct same_vmac (vmacs l)) (sym told) (apart_filtered holds_something (map (ticked wait now) es)
+          (subst (IsDistinct same_vmac) (sym (vmacs_ticked wait now es)) s.apart));
       full = subst (λ l. list_all holds_something l ≡ true) (sym told) (full_filtered (map (ticked wait now) es));
     }
 
-pub learnt_at : (r : Resolve) (v : Vmac) (place : ℕ) (e : Entry) (wait : ℕ) (calls : List ResolveCall) → position (is_for v) r.entries.items ≡ Some place → e ≡ get_or r.entries.items place e → ResolveStands r wait calls → e.uris ≡ learnt calls v
+pub learnt_at : (r : Resolve) (v : Vmac) (place : ℕ) (e : Entry) (wait : ℕ) (calls : List ResolveCall) → position (is_for v) r.entries.items ≡ Some place → e ≡ get_or r.entries.items place e
+    → ResolveStands r wait calls → e.uris ≡ learnt calls v
 learnt_at r v place e wait calls placed at s = ap kept_uris (sym (find_placed (is_for v) r.entries.items place e placed at)) ∙ s.agrees.uris v
 
 pub learnt_nowhere : (r : Resolve) (v : Vmac) (wait : ℕ) (calls : List ResolveCall) → position (is_for v) r.entries.items ≡ None → ResolveStands r wait calls → None ≡ learnt calls v

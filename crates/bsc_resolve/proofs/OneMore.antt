@@ -1,4 +1,5 @@
 -- How questions and learnt URIs change by one call more.
+-- It serves clauses of functions of `laws` and `resolve`.
 use Rattle.std.proofs.Common.{◌≡◌, ℕ, Bool, true, false, cond, ◌||◌, ◌&&◌, List, [], ◌∷◌, ◌++◌, reverse, Option, Some, None, is_some, refl, ap, sym, ◌∙◌}
 use Rattle.std.specs.List.{list_any, filter_map}
 use Rattle.std.specs.Option.{option_or}
@@ -20,7 +21,8 @@ abbrev pub unless_ends : ℕ → Vmac → ResolveCall → Option Question → Op
 unless_ends wait v call None = None
 unless_ends wait v call (Some q) = cond (ends wait v q call) None (Some q)
 
-ended_more : (wait : ℕ) (v : Vmac) (calls : List ResolveCall) (call : ResolveCall) (o : Option Question) → unless_ended wait v (calls ++ call ∷ []) o ≡ unless_ends wait v call (unless_ended wait v calls o)
+ended_more : (wait : ℕ) (v : Vmac) (calls : List ResolveCall) (call : ResolveCall) (o : Option Question)
+    → unless_ended wait v (calls ++ call ∷ []) o ≡ unless_ends wait v call (unless_ended wait v calls o)
 ended_more wait v calls call None = refl
 ended_more wait v calls call (Some q) = rw (list_any-more (ends wait v q) calls call) (by (list_any (ends wait v q) calls))
   where
@@ -29,10 +31,13 @@ ended_more wait v calls call (Some q) = rw (list_any-more (ends wait v q) calls 
     by false = refl
 
 -- A call that doesn't ask for v can only end the question for it.
-pub question-more : (wait : ℕ) (calls : List ResolveCall) (call : ResolveCall) (v : Vmac) → question_for v call ≡ None → question wait (calls ++ call ∷ []) v ≡ unless_ends wait v call (question wait calls v)
+pub question-more : (wait : ℕ) (calls : List ResolveCall) (call : ResolveCall) (v : Vmac) → question_for v call ≡ None
+    → question wait (calls ++ call ∷ []) v ≡ unless_ends wait v call (question wait calls v)
 question-more wait calls call v n =
-    let s : since (asks_for v) (calls ++ call ∷ []) ≡ since (asks_for v) calls ++ call ∷ [] = since-more (asks_for v) calls call ∙ ap (λ (o : Option Question). cond (is_some o) [] (since (asks_for v) calls ++ call ∷ [])) n in
-    let q : newest_of (question_for v) (calls ++ call ∷ []) ≡ newest_of (question_for v) calls = newest_of-more (question_for v) calls call ∙ ap (λ (o : Option Question). option_or o (newest_of (question_for v) calls)) n in
+    let s : since (asks_for v) (calls ++ call ∷ []) ≡ since (asks_for v) calls ++ call ∷ [] = since-more (asks_for v) calls call
+    ∙ ap (λ (o : Option Question). cond (is_some o) [] (since (asks_for v) calls ++ call ∷ [])) n in
+    let q : newest_of (question_for v) (calls ++ call ∷ []) ≡ newest_of (question_for v) calls = newest_of-more (question_for v) calls call
+    ∙ ap (λ (o : Option Question). option_or o (newest_of (question_for v) calls)) n in
     ap (λ (xs : List ResolveCall). unless_ended wait v xs (newest_of (question_for v) (calls ++ call ∷ []))) s
     ∙ ap (λ (o : Option Question). unless_ended wait v (since (asks_for v) calls ++ call ∷ []) o) q
     ∙ ended_more wait v (since (asks_for v) calls) call (newest_of (question_for v) calls)
@@ -41,7 +46,8 @@ question-more wait calls call v n =
 pub question-asked : (wait : ℕ) (calls : List ResolveCall) (call : ResolveCall) (v : Vmac) (asked : Question) → question_for v call ≡ Some asked → question wait (calls ++ call ∷ []) v ≡ Some asked
 question-asked wait calls call v asked n =
     let s : since (asks_for v) (calls ++ call ∷ []) ≡ [] = since-more (asks_for v) calls call ∙ ap (λ (o : Option Question). cond (is_some o) [] (since (asks_for v) calls ++ call ∷ [])) n in
-    let q : newest_of (question_for v) (calls ++ call ∷ []) ≡ Some asked = newest_of-more (question_for v) calls call ∙ ap (λ (o : Option Question). option_or o (newest_of (question_for v) calls)) n in
+    let q : newest_of (question_for v) (calls ++ call ∷ []) ≡ Some asked = newest_of-more (question_for v) calls call
+    ∙ ap (λ (o : Option Question). option_or o (newest_of (question_for v) calls)) n in
     ap (λ (xs : List ResolveCall). unless_ended wait v xs (newest_of (question_for v) (calls ++ call ∷ []))) s
     ∙ ap (λ (o : Option Question). unless_ended wait v [] o) q
 

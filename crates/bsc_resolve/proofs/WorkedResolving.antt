@@ -1,4 +1,5 @@
 -- Questions and learnt URIs over written-out lists of calls, by computation. The wait is 10,000 ms.
+-- No clause needs it: worked examples.
 use Rattle.std.proofs.Common.{◌≡◌, ℕ, true, false, List, [], ◌∷◌, ◌++◌, Some, None, refl}
 use Rattle.bsc_octets.specs.declared.vmac.Vmac.{Vmac}
 use Rattle.bsc_resolve.specs.declared.call.ResolveCall.{ResolveCall}

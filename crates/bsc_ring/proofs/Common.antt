@@ -1,4 +1,5 @@
 -- Lemmas that crates above cite too.
+-- It serves bsc_desk, bsc_hub_core and bsc_script_laws.
 use Rattle.bsc_history.specs.declared.ending.End.{End}
 use Rattle.bsc_ring.specs.Ends.{IsNewOutlet, FoundEnd}
 use Rattle.bsc_ring.specs.Lists.{StartsWith}

@@ -1,5 +1,7 @@
 -- Each step keeps the rule.
-use Rattle.std.proofs.Common.{◌≡◌, ◌≢◌, ℕ, suc, ◌+◌, ◌%◌, ◌<◌, ◌≤◌, Bool, true, false, List, [], ◌∷◌, ◌++◌, length, set, is_some, Option, Some, None, ⊎_elim, refl, sym, ◌∙◌, ap, subst, arith, length-append, append-nil, slice_index, slice_set}
+-- It serves clauses of functions of `steps`.
+use Rattle.std.proofs.Common.{◌≡◌, ◌≢◌, ℕ, suc, ◌+◌, ◌%◌, ◌<◌, ◌≤◌, Bool, true, false, List, [], ◌∷◌, ◌++◌, length, set, is_some, Option, Some, None, ⊎_elim, refl, sym, ◌∙◌, ap}
+use Rattle.std.proofs.Common.{subst, arith, length-append, append-nil, slice_index, slice_set}
 use Rattle.std.proofs.lemmas.Bool.{true≢false}
 use mathlib.Core.Option.{some, none}
 use mathlib.Core.Logic.{dite}
@@ -162,8 +164,26 @@ module _ (id slots : ℕ) (me : Seated) (s : State (Option Item) View) (k : Ring
           takes (length pushed % slots) None,
           tail_home slots head pushed writing reading homes stored free room,
           remade head pushed ending true reading words (set homes (length pushed % slots) none) w refl k.named (tail_out slots head pushed writing reading homes stored room)
-              (record { begins = mine.begins; gave = mine.gave; low = omega arith; heard = mine.heard; recalls = mine.recalls; whole = mine.whole; inlet = λ _. (own.0, own.1, refl); outlet = mine.outlet })
-              (λ i x other got. let f = k.fits i x got in record { begins = f.begins; gave = f.gave; low = f.low; heard = f.heard; recalls = f.recalls; whole = f.whole; inlet = λ has. absurd (others_inlet is i x other got has); outlet = f.outlet })
+              (record {
+                begins = mine.begins;
+                gave = mine.gave;
+                low = omega arith;
+                heard = mine.heard;
+                recalls = mine.recalls;
+                whole = mine.whole;
+                inlet = λ _. (own.0, own.1, refl);
+                outlet = mine.outlet;
+              })
+              (λ i x other got. let f = k.fits i x got in record {
+                begins = f.begins;
+                gave = f.gave;
+                low = f.low;
+                heard = f.heard;
+                recalls = f.recalls;
+                whole = f.whole;
+                inlet = λ has. absurd (others_inlet is i x other got has);
+                outlet = f.outlet;
+              })
               (λ h. h) (λ h. h),
           (a, b, c, (λ full. absurd (roomy full)), λ _. ap (λ (m : List (ℕ × Option Item)). (w, (length pushed % slots, None) ∷ m)) empty ∙ ap (λ (n : ℕ). (w, (n % slots, None) ∷ [])) (sym same)),
         ))
@@ -187,8 +207,26 @@ module _ (id slots : ℕ) (me : Seated) (s : State (Option Item) View) (k : Ring
           tt,
           remade head pushed' ending false reading (head ∷ (length me.0.pushed + 1) ∷ end_number ending ∷ []) (put_back homes me.1) w (ap (λ (n : ℕ). head ∷ n ∷ end_number ending ∷ []) more) k.named
               (subst (λ (m : List (ℕ × Option Item)). Stored slots head pushed' false reading (put_back homes m)) (sym slot) (tail_back slots head pushed writing reading homes stored x out))
-              (record { begins = longer_starts pushed me.0.known (x ∷ []) mine.begins; gave = mine.gave; low = mine.low; heard = mine.heard; recalls = mine.recalls; whole = λ h. absurd (still_open h mine.whole); inlet = λ _. (new, own.1, refl); outlet = mine.outlet })
-              (λ i y other got. let f = k.fits i y got in record { begins = longer_starts pushed y.known (x ∷ []) f.begins; gave = f.gave; low = f.low; heard = f.heard; recalls = f.recalls; whole = λ h. absurd (still_open h f.whole); inlet = λ has. absurd (others_inlet is i y other got has); outlet = f.outlet })
+              (record {
+                begins = longer_starts pushed me.0.known (x ∷ []) mine.begins;
+                gave = mine.gave;
+                low = mine.low;
+                heard = mine.heard;
+                recalls = mine.recalls;
+                whole = λ h. absurd (still_open h mine.whole);
+                inlet = λ _. (new, own.1, refl);
+                outlet = mine.outlet;
+              })
+              (λ i y other got. let f = k.fits i y got in record {
+                begins = longer_starts pushed y.known (x ∷ []) f.begins;
+                gave = f.gave;
+                low = f.low;
+                heard = f.heard;
+                recalls = f.recalls;
+                whole = λ h. absurd (still_open h f.whole);
+                inlet = λ has. absurd (others_inlet is i y other got has);
+                outlet = f.outlet;
+              })
               (λ h. h) (λ h. h),
           ap (λ (m : List (ℕ × Option Item)). (w, Rattle.atomic_table.specs.Table.rest m)) carried,
         )
@@ -205,8 +243,26 @@ module _ (id slots : ℕ) (me : Seated) (s : State (Option Item) View) (k : Ring
           keeps,
           tt,
           remade head pushed (Some e) writing reading (head ∷ length pushed ∷ n ∷ []) homes w (ap (λ (m : ℕ). head ∷ length pushed ∷ m ∷ []) means) (λ bad. right (some_once e Left bad)) stored
-              (record { begins = mine.begins; gave = mine.gave; low = mine.low; heard = λ d h. never d (mine.heard d h); recalls = mine.recalls; whole = λ h. ((mine.whole h).0, refl); inlet = λ _. (own.0, same, own.2); outlet = mine.outlet })
-              (λ i x other got. let f = k.fits i x got in record { begins = f.begins; gave = f.gave; low = f.low; heard = λ d h. never d (f.heard d h); recalls = f.recalls; whole = λ h. ((f.whole h).0, refl); inlet = λ has. absurd (others_inlet is i x other got has); outlet = f.outlet })
+              (record {
+                begins = mine.begins;
+                gave = mine.gave;
+                low = mine.low;
+                heard = λ d h. never d (mine.heard d h);
+                recalls = mine.recalls;
+                whole = λ h. ((mine.whole h).0, refl);
+                inlet = λ _. (own.0, same, own.2);
+                outlet = mine.outlet;
+              })
+              (λ i x other got. let f = k.fits i x got in record {
+                begins = f.begins;
+                gave = f.gave;
+                low = f.low;
+                heard = λ d h. never d (f.heard d h);
+                recalls = f.recalls;
+                whole = λ h. ((f.whole h).0, refl);
+                inlet = λ has. absurd (others_inlet is i x other got has);
+                outlet = f.outlet;
+              })
               (λ h. h) (λ h. h),
           refl,
         )
@@ -220,7 +276,16 @@ module _ (id slots : ℕ) (me : Seated) (s : State (Option Item) View) (k : Ring
           keeps,
           tt,
           remade head pushed ending writing reading words homes w refl k.named stored
-              (record { begins = mine.begins; gave = mine.gave; low = mine.low; heard = λ e h. sym same ∙ h; recalls = recalls_end me.0 (end_in (end_number ending)) (λ d h. same ∙ mine.heard d h) mine.recalls; whole = mine.whole; inlet = mine.inlet; outlet = mine.outlet })
+              (record {
+                begins = mine.begins;
+                gave = mine.gave;
+                low = mine.low;
+                heard = λ e h. sym same ∙ h;
+                recalls = recalls_end me.0 (end_in (end_number ending)) (λ d h. same ∙ mine.heard d h) mine.recalls;
+                whole = mine.whole;
+                inlet = mine.inlet;
+                outlet = mine.outlet;
+              })
               (λ i x _ got. k.fits i x got) (λ h. h) (λ h. h),
           ((λ bad. k.named (sym same ∙ bad)), (λ h. ap (λ (e : Option End). is_some e) same ∙ (mine.whole h).1), (λ d h. same ∙ mine.heard d h), refl),
         )
@@ -242,9 +307,21 @@ module _ (id slots : ℕ) (me : Seated) (s : State (Option Item) View) (k : Ring
             keeps,
             tt,
             remade head pushed ending writing reading words homes w refl k.named stored
-                (record { begins = whole; gave = ([], sym (append-nil me.0.given)); low = mine.low; heard = mine.heard; recalls = recalls_tail me.0.found (length me.0.given) me.0.heard mine.recalls; whole = λ h. (sym all, heard_some me.0.heard ending mine.heard h); inlet = mine.inlet; outlet = mine.outlet })
+                (record {
+                  begins = whole;
+                  gave = ([], sym (append-nil me.0.given));
+                  low = mine.low;
+                  heard = mine.heard;
+                  recalls = recalls_tail me.0.found (length me.0.given) me.0.heard mine.recalls;
+                  whole = λ h. (sym all, heard_some me.0.heard ending mine.heard h);
+                  inlet = mine.inlet;
+                  outlet = mine.outlet;
+                })
                 (λ i x _ got. k.fits i x got) (λ h. h) (λ h. h),
-            ((λ _. (subst (λ (l : List Item). StartsWith l me.0.known) all mine.begins, (λ h. sym all ∙ sym (mine.whole h).0), ap (λ (m : List (ℕ × Option Item)). (w, m)) empty)), λ no. absurd (no none_left)),
+            (
+              (λ _. (subst (λ (l : List Item). StartsWith l me.0.known) all mine.begins, (λ h. sym all ∙ sym (mine.whole h).0), ap (λ (m : List (ℕ × Option Item)). (w, m)) empty)),
+              λ no. absurd (no none_left),
+            ),
           ))
           (λ (more : length pushed ≢ length me.0.given).
           let left : head < length pushed = omega (arith, more, count, behind) in
@@ -256,10 +333,36 @@ module _ (id slots : ℕ) (me : Seated) (s : State (Option Item) View) (k : Ring
             takes (head % slots) (Some x),
             head_home slots head pushed writing reading homes stored x free next.1,
             remade head pushed ending writing true words (set homes (head % slots) none) w refl k.named (head_out slots head pushed writing reading homes stored left)
-                (record { begins = self; gave = one_more; low = mine.low; heard = mine.heard; recalls = recalls_tail me.0.found (length pushed) me.0.heard mine.recalls; whole = λ h. (refl, heard_some me.0.heard ending mine.heard h); inlet = mine.inlet; outlet = λ _. (omega (arith, length-append me.0.given (x ∷ []), count), refl) })
-                (λ i y other got. let f = k.fits i y got in record { begins = f.begins; gave = f.gave; low = f.low; heard = f.heard; recalls = f.recalls; whole = f.whole; inlet = f.inlet; outlet = λ has. absurd (others_outlet is i y other got has) })
+                (record {
+                  begins = self;
+                  gave = one_more;
+                  low = mine.low;
+                  heard = mine.heard;
+                  recalls = recalls_tail me.0.found (length pushed) me.0.heard mine.recalls;
+                  whole = λ h. (refl, heard_some me.0.heard ending mine.heard h);
+                  inlet = mine.inlet;
+                  outlet = λ _. (omega (arith, length-append me.0.given (x ∷ []), count), refl);
+                })
+                (λ i y other got. let f = k.fits i y got in record {
+                  begins = f.begins;
+                  gave = f.gave;
+                  low = f.low;
+                  heard = f.heard;
+                  recalls = f.recalls;
+                  whole = f.whole;
+                  inlet = f.inlet;
+                  outlet = λ has. absurd (others_outlet is i y other got has);
+                })
                 (λ h. h) (λ h. h),
-            ((λ same. absurd (more same)), λ _. (pushed, x, (mine.begins, (λ h. sym (mine.whole h).0), refl, one_more, omega (arith, left, count)), ap (λ (m : List (ℕ × Option Item)). (w, (head % slots, Some x) ∷ m)) empty ∙ ap (λ (n : ℕ). (w, (n % slots, Some x) ∷ [])) (sym count))),
+            (
+              (λ same. absurd (more same)),
+              λ _. (
+                pushed,
+                x,
+                (mine.begins, (λ h. sym (mine.whole h).0), refl, one_more, omega (arith, left, count)),
+                ap (λ (m : List (ℕ × Option Item)). (w, (head % slots, Some x) ∷ m)) empty ∙ ap (λ (n : ℕ). (w, (n % slots, Some x) ∷ [])) (sym count),
+              ),
+            ),
           ))
 
     module _ (n : ℕ) (counted : n + 1 ≡ length me.0.given) (carried : me.1 ≡ (n % slots, None) ∷ []) (busy : me.0.reading ≡ true) where
@@ -277,10 +380,29 @@ module _ (id slots : ℕ) (me : Seated) (s : State (Option Item) View) (k : Ring
             w,
             gives,
             tt,
-            remade (suc head) pushed ending writing false ((n + 1) ∷ length pushed ∷ end_number ending ∷ []) (put_back homes me.1) w (ap (λ (m : ℕ). m ∷ length pushed ∷ end_number ending ∷ []) (omega (arith, same))) k.named
+            remade (suc head) pushed ending writing false ((n + 1) ∷ length pushed ∷ end_number ending ∷ []) (put_back homes me.1) w
+                (ap (λ (m : ℕ). m ∷ length pushed ∷ end_number ending ∷ []) (omega (arith, same))) k.named
                 (subst (λ (m : List (ℕ × Option Item)). Stored slots (suc head) pushed writing false (put_back homes m)) (sym slot) (head_back slots head pushed writing reading homes stored left))
-                (record { begins = mine.begins; gave = mine.gave; low = let l = mine.low in omega (arith, l); heard = mine.heard; recalls = mine.recalls; whole = mine.whole; inlet = mine.inlet; outlet = λ _. (count, refl) })
-                (λ i y other got. let f = k.fits i y got in record { begins = f.begins; gave = f.gave; low = let l = f.low in omega (arith, l); heard = f.heard; recalls = f.recalls; whole = f.whole; inlet = f.inlet; outlet = λ has. absurd (others_outlet is i y other got has) })
+                (record {
+                  begins = mine.begins;
+                  gave = mine.gave;
+                  low = let l = mine.low in omega (arith, l);
+                  heard = mine.heard;
+                  recalls = mine.recalls;
+                  whole = mine.whole;
+                  inlet = mine.inlet;
+                  outlet = λ _. (count, refl);
+                })
+                (λ i y other got. let f = k.fits i y got in record {
+                  begins = f.begins;
+                  gave = f.gave;
+                  low = let l = f.low in omega (arith, l);
+                  heard = f.heard;
+                  recalls = f.recalls;
+                  whole = f.whole;
+                  inlet = f.inlet;
+                  outlet = λ has. absurd (others_outlet is i y other got has);
+                })
                 (λ h. h) (λ h. h),
             ap (λ (m : List (ℕ × Option Item)). (w, Rattle.atomic_table.specs.Table.rest m)) carried,
           )
@@ -325,14 +447,16 @@ module _ (id slots : ℕ) (me : Seated) (is : me.0.outlet ≡ true) where
       (sym k.words)
       (tail_at id slots me s k wide at is empty idle)
 
-  pub stores_head_of : (n cap : ℕ) → n + 1 ≡ length me.0.given → cap ≡ slots → me.1 ≡ (n % cap, None) ∷ [] → me.0.reading ≡ true → Allows RingKept slots id me 0 (λ _. n + 1) (λ _. StoresHead (step slots 0 (n + 1) 0 none) me (n + 1))
+  pub stores_head_of : (n cap : ℕ) → n + 1 ≡ length me.0.given → cap ≡ slots → me.1 ≡ (n % cap, None) ∷ [] → me.0.reading ≡ true
+      → Allows RingKept slots id me 0 (λ _. n + 1) (λ _. StoresHead (step slots 0 (n + 1) 0 none) me (n + 1))
   stores_head_of n cap counted e carried busy s k wide at small =
       subst (λ (ws : List ℕ). KeepsRule id slots me s k wide at 0 (n + 1) (StoresHead (step slots 0 (n + 1) 0 none) me (n + 1)) ws)
       (sym k.words)
       (head_freed id slots me s k wide at is n counted (carried ∙ ap (λ (m : ℕ). (n % m, None) ∷ []) e) busy)
 
 -- the slot in hand after a load of the tail that found more
-pub item_in_hand : (slots n taken cap : ℕ) (v w : Seated) → LoadsTail (step slots 1 0 0 none) v n w → n ≢ taken → taken ≡ length v.0.given → cap ≡ slots → (x : Option Item) × (w.1 ≡ (taken % cap, x) ∷ Rattle.atomic_table.specs.Table.rest w.1)
+pub item_in_hand : (slots n taken cap : ℕ) (v w : Seated) → LoadsTail (step slots 1 0 0 none) v n w → n ≢ taken → taken ≡ length v.0.given → cap ≡ slots → (x : Option Item)
+    × (w.1 ≡ (taken % cap, x) ∷ Rattle.atomic_table.specs.Table.rest w.1)
 item_in_hand slots n taken cap v w h more e f =
     let got = h.1 (λ same. more (same ∙ sym e)) in
     let is : w.1 ≡ (taken % cap, Some got.1) ∷ [] = ap (λ (m : Seated). m.1) got.3 ∙ ap (λ (m : ℕ). (m % slots, Some got.1) ∷ []) (sym e) ∙ ap (λ (m : ℕ). (taken % m, Some got.1) ∷ []) (sym f) in

@@ -1,4 +1,5 @@
 -- Notes between the two ends keep the rule, and what the ends know of each other after them.
+-- It serves the clauses of `tell_each_other`.
 use Rattle.std.proofs.Common.{◌≡◌, ℕ, ◌≤◌, Bool, true, false, List, [], ◌∷◌, ◌++◌, length, drop, set, is_some, Option, Some, None, refl, sym, ◌∙◌, ap, subst, arith, append-nil, slice_index}
 use Rattle.std.proofs.lemmas.List.{drop_at}
 use Rattle.std.proofs.lemmas.Bool.{true≢false}
@@ -44,18 +45,37 @@ module _ (s : State (Option Item) View) (k : RingKept s) where
   Fit v = SeatFits k.head k.pushed k.ending k.writing k.reading v
 
   -- a new seat with a note
-  noted : (id : ℕ) (v : View) (least : ℕ) (known : List Item) (whole : Bool) (heard : Option End) → get_elem? s.views id ≡ some v → StartsWith k.pushed known → least ≤ k.head → ((e : End) → heard ≡ Some e → k.ending ≡ Some e) → (whole ≡ true → (known ≡ k.pushed) × (is_some k.ending ≡ true))
+  noted : (id : ℕ) (v : View) (least : ℕ) (known : List Item) (whole : Bool) (heard : Option End) → get_elem? s.views id ≡ some v → StartsWith k.pushed known → least ≤ k.head
+      → ((e : End) → heard ≡ Some e → k.ending ≡ Some e) → (whole ≡ true → (known ≡ k.pushed) × (is_some k.ending ≡ true))
       → RingKept (record { words = s.words; homes = s.homes; views = set s.views id v ++ note least known whole heard ∷ [] })
   noted id v least known whole heard at b l h t =
       other_views s k s.words k.words (set s.views id v ++ note least known whole heard ∷ [])
       (split_all s.views id v (note least known whole heard) Fit (k.fits id v at)
-      (record { begins = b; gave = (known, refl); low = l; heard = h; recalls = λ i e bad. absurd (some-ne-none (Ending (Some e)) (sym bad)); whole = t; inlet = λ bad. absurd (true≢false (sym bad)); outlet = λ bad. absurd (true≢false (sym bad)) })
+      (record {
+        begins = b;
+        gave = (known, refl);
+        low = l;
+        heard = h;
+        recalls = λ i e bad. absurd (some-ne-none (Ending (Some e)) (sym bad));
+        whole = t;
+        inlet = λ bad. absurd (true≢false (sym bad));
+        outlet = λ bad. absurd (true≢false (sym bad));
+      })
       k.fits)
       (one_split is_inlet s.views id v at k.one_inlet v (note least known whole heard) (λ h. h) (λ bad. absurd (true≢false (sym bad))))
       (one_split is_outlet s.views id v at k.one_outlet v (note least known whole heard) (λ h. h) (λ bad. absurd (true≢false (sym bad))))
 
   spent_fits : Fit spent_view
-  spent_fits = record { begins = (k.pushed, refl); gave = ([], refl); low = omega arith; heard = λ e bad. absurd (let clash : None ≡ Some e = bad in cc); recalls = λ i e bad. absurd (some-ne-none (Ending (Some e)) (sym bad)); whole = λ bad. absurd (true≢false (sym bad)); inlet = λ bad. absurd (true≢false (sym bad)); outlet = λ bad. absurd (true≢false (sym bad)) }
+  spent_fits = record {
+    begins = (k.pushed, refl);
+    gave = ([], refl);
+    low = omega arith;
+    heard = λ e bad. absurd (let clash : None ≡ Some e = bad in cc);
+    recalls = λ i e bad. absurd (some-ne-none (Ending (Some e)) (sym bad));
+    whole = λ bad. absurd (true≢false (sym bad));
+    inlet = λ bad. absurd (true≢false (sym bad));
+    outlet = λ bad. absurd (true≢false (sym bad));
+  }
 
   heard_fits : (v w : View) → Fit v → Fit w → Fit (outlet_hears v w)
   heard_fits v w f g =
@@ -98,7 +118,8 @@ pub notes_inlet : (id : ℕ) (v : View) → v.inlet ≡ true → Splits RingKept
 notes_inlet id v is s k at =
     let mine = k.fits id v at in
     let own = mine.inlet is in
-    noted s k id v v.least v.pushed (is_some v.ended) v.ended at ([], sym own.0 ∙ sym (append-nil v.pushed)) mine.low (λ e h. sym own.1 ∙ h) (λ h. (own.0, ap (λ (e : Option End). is_some e) (sym own.1) ∙ h))
+    noted s k id v v.least v.pushed (is_some v.ended) v.ended at ([], sym own.0 ∙ sym (append-nil v.pushed)) mine.low (λ e h. sym own.1 ∙ h)
+    (λ h. (own.0, ap (λ (e : Option End). is_some e) (sym own.1) ∙ h))
 
 pub notes_outlet : (id : ℕ) (v : View) → v.outlet ≡ true → v.reading ≡ false → Splits RingKept id v v (outlet_note v)
 notes_outlet id v is idle s k at =

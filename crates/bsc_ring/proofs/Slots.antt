@@ -1,5 +1,7 @@
 -- What a slot taken or given back does to the slots.
-use Rattle.std.proofs.Common.{◌≡◌, ◌≢◌, ℕ, zero, suc, ◌+◌, ◌%◌, ◌<◌, ◌≤◌, Bool, true, false, List, [], ◌∷◌, ◌++◌, length, set, Option, Some, None, ◌⊎◌, inl, inr, ⊎_elim, refl, sym, ◌∙◌, ap, subst, arith, length-append, length-set, mod-lt}
+-- It serves clauses of functions of `steps`.
+use Rattle.std.proofs.Common.{◌≡◌, ◌≢◌, ℕ, zero, suc, ◌+◌, ◌%◌, ◌<◌, ◌≤◌, Bool, true, false, List, [], ◌∷◌, ◌++◌, length, set, Option, Some, None, ◌⊎◌, inl, inr, ⊎_elim, refl, sym}
+use Rattle.std.proofs.Common.{◌∙◌, ap, subst, arith, length-append, length-set, mod-lt}
 use Rattle.std.proofs.Math.Nat.{add-mod_right}
 use Rattle.std.proofs.lemmas.Bool.{true≢false}
 use mathlib.Core.Option.{some, none, some-injective}
@@ -74,7 +76,8 @@ module _ (cap head : ℕ) (pushed : List Item) (writing reading : Bool) (homes :
             (λ (new : x ≡ y).
             let last = at_below (pushed ++ x ∷ []) p y at in
             ⊎_elim
-            (λ (here : p ≡ n). subst (λ (q : ℕ). get_elem? (set homes (n % cap) (some (Some x))) (q % cap) ≡ some (some (Some y))) (sym here) (set_here homes (n % cap) (some (Some x)) (slot_there n) ∙ ap (λ (z : Item). some (some (Some z))) new))
+            (λ (here : p ≡ n). subst (λ (q : ℕ). get_elem? (set homes (n % cap) (some (Some x))) (q % cap) ≡ some (some (Some y))) (sym here)
+            (set_here homes (n % cap) (some (Some x)) (slot_there n) ∙ ap (λ (z : Item). some (some (Some z))) new))
             (λ (low' : p < n).
             let old = there pushed p low' in
             let same : old.0 ≡ y = some-injective old.0 y (sym (Rattle.atomic_table.proofs.Lists.at_longer pushed (x ∷ []) p old.0 old.1) ∙ at) in
@@ -83,7 +86,8 @@ module _ (cap head : ℕ) (pushed : List Item) (writing reading : Bool) (homes :
             (at_snoc pushed x y p at);
         free = λ p low high _.
             let above : n < p = omega (arith, low, long) in
-            set_else homes (n % cap) (p % cap) (some (Some x)) (apart n p cap above (let b = s.behind in omega (arith, b, high))) ∙ s.free p (omega (arith, above)) high (λ _ e. absurd (omega (arith, e, above)));
+            set_else homes (n % cap) (p % cap) (some (Some x)) (apart n p cap above (let b = s.behind in omega (arith, b, high)))
+            ∙ s.free p (omega (arith, above)) high (λ _ e. absurd (omega (arith, e, above)));
       }
 
   -- the slot at the head goes out
@@ -119,11 +123,13 @@ module _ (cap head : ℕ) (pushed : List Item) (writing reading : Bool) (homes :
         full = λ p x low _ at.
             let below = at_below pushed p x at in
             let above : head < p = omega (arith, low) in
-            set_else homes (head % cap) (p % cap) (some None) (apart head p cap above (let w = s.within in omega (arith, w, below))) ∙ s.full p x (omega (arith, above)) (λ _ e. absurd (omega (arith, e, above))) at;
+            set_else homes (head % cap) (p % cap) (some None) (apart head p cap above (let w = s.within in omega (arith, w, below)))
+            ∙ s.full p x (omega (arith, above)) (λ _ e. absurd (omega (arith, e, above))) at;
         free = λ p low high out.
             ⊎_elim
             (λ (here : p ≡ head + cap).
-            subst (λ (q : ℕ). get_elem? (set homes (head % cap) (some None)) q ≡ some (some None)) (sym (ap (λ (z : ℕ). z % cap) here ∙ add-mod_right head cap)) (set_here homes (head % cap) (some None) (slot_there head)))
+            subst (λ (q : ℕ). get_elem? (set homes (head % cap) (some None)) q ≡ some (some None)) (sym (ap (λ (z : ℕ). z % cap) here ∙ add-mod_right head cap))
+            (set_here homes (head % cap) (some None) (slot_there head)))
             (λ (below : p < head + cap).
             set_else homes (head % cap) (p % cap) (some None) (apart head p cap (omega (arith, low, more)) below) ∙ s.free p low below out)
             (at_or_below p (head + cap) (omega (arith, high)));

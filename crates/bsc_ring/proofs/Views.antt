@@ -1,4 +1,5 @@
 -- What every view knows after one view changed, was cut in two or took in another.
+-- It serves clauses of functions of `steps`.
 use Rattle.std.proofs.Common.{◌≡◌, ◌≢◌, ℕ, suc, ◌+◌, ◌≤◌, Bool, true, false, List, [], ◌∷◌, ◌++◌, length, set, ⊎_elim, sym, ◌∙◌, ap, subst, arith, length-append, append_assoc, append-nil}
 use Rattle.std.proofs.lemmas.Bool.{true≢false}
 use mathlib.Core.Option.{some, some-injective, some-ne-none}
@@ -37,11 +38,13 @@ next_starts whole front x h at = next_of front h.0 (subst (λ (l : List Item). g
     next_of f (y ∷ ys) e w = (ys, w ∙ (ap (λ (z : Item). f ++ z ∷ ys) (some-injective y x (first_of_rest f (y ∷ ys) e)) ∙ sym (append_assoc f (x ∷ []) ys)))
 
 -- where one view changed
-pub changed : (views : List View) (id : ℕ) (w : View) (P : View → Type 0) → P w → ((i : ℕ) (x : View) → i ≢ id → get_elem? views i ≡ some x → P x) → (i : ℕ) (x : View) → get_elem? (set views id w) i ≡ some x → P x
+pub changed : (views : List View) (id : ℕ) (w : View) (P : View → Type 0) → P w → ((i : ℕ) (x : View) → i ≢ id → get_elem? views i ≡ some x → P x) → (i : ℕ) (x : View)
+    → get_elem? (set views id w) i ≡ some x → P x
 changed views id w P here there i x got = ⊎_elim (λ h. subst P h.1 here) (λ h. there i x h.0 h.1) (at_set views id i w x got)
 
 -- where one view was cut in two
-pub split_all : (views : List View) (id : ℕ) (left right : View) (P : View → Type 0) → P left → P right → ((i : ℕ) (x : View) → get_elem? views i ≡ some x → P x) → (i : ℕ) (x : View) → get_elem? (set views id left ++ right ∷ []) i ≡ some x → P x
+pub split_all : (views : List View) (id : ℕ) (left right : View) (P : View → Type 0) → P left → P right → ((i : ℕ) (x : View) → get_elem? views i ≡ some x → P x) → (i : ℕ) (x : View)
+    → get_elem? (set views id left ++ right ∷ []) i ≡ some x → P x
 split_all views id left right P a b all i x got =
     ⊎_elim (λ h. changed views id left P a (λ j y _ there. all j y there) i x h) (λ h. subst P h.1 b) (at_end (set views id left) right x i got)
 

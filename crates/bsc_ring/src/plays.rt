@@ -42,9 +42,9 @@ impl Play<Option<Octets>, View> for StoreTail {
 }
 
 /// The outlet loads the end word.
-pub struct LoadEnd;
+pub struct ReadEnd;
 
-impl Play<Option<Octets>, View> for LoadEnd {
+impl Play<Option<Octets>, View> for ReadEnd {
     ghost use Rattle.bsc_ring.specs.Effects.{LoadsEnd};
 
     ghost then = { LoadsEnd };

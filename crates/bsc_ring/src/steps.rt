@@ -11,7 +11,7 @@ ghost use Rattle.bsc_ring.specs.Effects.{Agree, InletRests, OutletRests, TakesNe
 ghost use Rattle.bsc_ring.specs.Effects.{after_push, after_take, inlet_met, outlet_met};
 
 use crate::plays::{
-    Confirm, InletHears, InletNote, IntoEnds, LoadEnd, LoadHead, LoadTail, OutletHears, OutletNote,
+    Confirm, InletHears, InletNote, IntoEnds, LoadHead, LoadTail, OutletHears, OutletNote, ReadEnd,
     RingSeat, RingTable, StoreEnd, StoreHead, StoreTail,
 };
 use crate::words::{END_WORD, HEAD_WORD, TAIL_WORD};
@@ -112,7 +112,7 @@ pub(crate) fn load_end(table: &RingTable, seat: &mut RingSeat) -> Option<End>
     ensures stays { (e : End) → seat.old.me.0.heard ≡ Some e → result ≡ Some e }
     ensures seen { seat.new.me ≡ (after_end result seat.old.me.0, []) }
 {
-    let found = table.shared.load::<LoadEnd>(seat, END_WORD);
+    let found = table.shared.load::<ReadEnd>(seat, END_WORD);
     end_of(found)
 }
 

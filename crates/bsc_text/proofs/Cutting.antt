@@ -1,4 +1,5 @@
 -- Where a script is cut into pieces.
+-- It serves clauses of functions of `feed` and `pieces`.
 use Rattle.std.proofs.Common.{◌≡◌, ◌≢◌, ℕ, ◌+◌, ◌≤◌, ◌<◌, Bool, true, false, ◌==◌, if◌then◌else◌, List, [], ◌∷◌, ◌++◌, length, get_or, take, zero, suc, refl, ap, arith}
 use Rattle.std.proofs.lemmas.Bool.Decides.{nat_tests}
 use Rattle.bsc_text.specs.Lines.{pieces_of, in_front, line_in, has_no_lf}

@@ -1,4 +1,5 @@
 -- The line that a piece holds.
+-- It serves the clauses of `line_in`.
 use Rattle.std.proofs.Common.{◌≡◌, ◌≢◌, ℕ, Bool, true, false, if◌then◌else◌, List, [], ◌∷◌, ◌++◌, length, take, refl, ap, ◌∙◌, arith}
 use Rattle.std.proofs.lemmas.Bool.Decides.{nat_tests}
 use Rattle.bsc_text.specs.Lines.{line_in, is_line_end}

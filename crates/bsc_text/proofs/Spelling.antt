@@ -1,4 +1,5 @@
 -- Words, one after another.
+-- It serves the clauses of `next_word`.
 use Rattle.std.proofs.Common.{◌≡◌, ◌≢◌, ℕ, ◌≤◌, ◌<◌, not, ◌==◌, if◌then◌else◌, List, [], ◌∷◌, length, take, drop, get_or, zero, suc, ap, ◌∙◌, arith}
 use Rattle.std.proofs.lemmas.Bool.Decides.{nat_tests}
 use Rattle.bsc_text.specs.Lines.{in_front}

@@ -1,5 +1,7 @@
 -- What a loop over a feed uses up.
-use Rattle.std.proofs.Common.{◌≡◌, ℕ, ◌+◌, ◌-◌, ◌*◌, ◌≤◌, ◌<◌, if◌then◌else◌, Bool, true, false, nat_lt, nat_eq, zero, suc, ◌||◌, List, [], ◌∷◌, ◌++◌, length, take, drop, Option, Some, refl, sym, ap, ◌∙◌, length-append, length-drop, arith}
+-- It serves clauses of functions of `feed`.
+use Rattle.std.proofs.Common.{◌≡◌, ℕ, ◌+◌, ◌-◌, ◌*◌, ◌≤◌, ◌<◌, if◌then◌else◌, Bool, true, false, nat_lt, nat_eq, zero, suc, ◌||◌, List, [], ◌∷◌, ◌++◌, length, take, drop, Option}
+use Rattle.std.proofs.Common.{Some, refl, sym, ap, ◌∙◌, length-append, length-drop, arith}
 use Rattle.std.proofs.lemmas.List.{append-nil, length-take}
 use Rattle.std.proofs.lemmas.Bool.{eqb-true}
 use Rattle.std.proofs.lemmas.Bool.Decides.{nat_tests}
@@ -14,7 +16,14 @@ use Rattle.bsc_text.proofs.Cutting.{length-pieces_of, length-piece}
 
 -- what is read and given stays within a bound
 length-unread : (f : Feed) → length (unread f) ≡ length f.carry.items + (f.end - f.at)
-length-unread f = omega (arith, length-append f.carry.items (drop f.at (take f.end f.chunk.items)), length-drop f.at (take f.end f.chunk.items), length-take f.end f.chunk.items, f.in_order, f.in_chunk)
+length-unread f = omega (
+  arith,
+  length-append f.carry.items (drop f.at (take f.end f.chunk.items)),
+  length-drop f.at (take f.end f.chunk.items),
+  length-take f.end f.chunk.items,
+  f.in_order,
+  f.in_chunk,
+)
 
 pub within : (f : Feed) → f.count + length (unread f) ≤ most_read
 within f = omega (arith, length-unread f, f.in_order, f.in_chunk, f.one_chunk, f.short_line, f.in_script)

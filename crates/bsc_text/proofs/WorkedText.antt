@@ -1,4 +1,5 @@
 -- Lines and words, and what they write, worked by hand.
+-- No clause needs it: worked examples.
 use Rattle.std.proofs.Common.{◌≡◌, [], ◌∷◌, codes, true, false, Some, None, refl}
 use Rattle.hex.specs.Hex.{decode_pairs}
 use Rattle.bsc_text.specs.Lines.{pieces_of, line_in, is_too_big}

@@ -1,11 +1,12 @@
 -- A caller's own entries, by what its view says of them.
+-- It serves the clauses of `entering_keeps_own`, `own_is_all` and `two_callers`.
 use Rattle.std.proofs.Common.{◌≡◌, ◌+◌, ◌≤◌, ℕ, List, ◌∷◌, ◌++◌, length, sym, ◌∙◌, ap, subst, arith}
 use mathlib.Core.Option.{some}
 use lib.ListN.{get_elem?}
 use Rattle.bsc_history.specs.declared.entry.Entry.{Entry}
 use Rattle.bsc_history.specs.declared.limits.About.{About}
 use Rattle.bsc_history.specs.declared.mark.Stamped.{Stamped}
-use Rattle.bsc_turn.specs.declared.view.Ended.{Ended}
+use Rattle.bsc_turn.specs.declared.view.EndedCaller.{EndedCaller}
 use Rattle.bsc_turn.specs.declared.view.View.{View}
 use Rattle.bsc_turn.specs.Effects.{IsConsistent, having_seen}
 use Rattle.bsc_turn.specs.Histories.{own_of}
@@ -22,9 +23,9 @@ pub same_own : (v w : View) (H : List Stamped) → w ≡ having_seen H v → IsC
 same_own v w H e tv tw = ap (λ (x : View). own_of x.seen x.number) (sym e) ∙ tw.0 ∙ ap (λ (x : View). x.own) e ∙ sym tv.0
 
 -- a caller's own entries and those of one that ended in its pass are no more than it has seen
-pub two_callers_own : (v : View) (m : List Ended) (e : Ended) (l : List Ended) → IsConsistent v → v.ended ≡ m ++ e ∷ l → length v.own + length e.own ≤ length v.seen
+pub two_callers_own : (v : View) (m : List EndedCaller) (e : EndedCaller) (l : List EndedCaller) → IsConsistent v → v.ended ≡ m ++ e ∷ l → length v.own + length e.own ≤ length v.seen
 two_callers_own v m e l t is =
-    let has : get_elem? v.ended (length m) ≡ some e = subst (λ (x : List Ended). get_elem? x (length m) ≡ some e) (sym is) (at_middle m e l) in
+    let has : get_elem? v.ended (length m) ≡ some e = subst (λ (x : List EndedCaller). get_elem? x (length m) ≡ some e) (sym is) (at_middle m e l) in
     let its = t.1 (length m) e has in
     let both = two_own v.seen v.number e.number its.0 in
     let mine = ap (λ (x : List Entry). length x) t.0 in

@@ -1,4 +1,5 @@
 -- A pass that gets its view back.
+-- It serves clauses of functions of `entering`, `laws` and `turn`.
 use Rattle.std.proofs.Common.{◌≡◌, ◌≢◌, ◌⊎◌, inl, inr, ⊎_elim, ℕ, true, List, [], ◌∷◌, length, refl, sym, subst}
 use Rattle.bsc_history.specs.declared.limits.About.{About}
 use Rattle.bsc_history.specs.declared.mark.Stamped.{Stamped}
@@ -15,7 +16,8 @@ pub held_in : (P : View → Type 0) (vs : List View) (v : View) → vs ≡ v ∷
 held_in P vs v e p = subst (λ (us : List View). (us ≡ view_in us ∷ []) × P (view_in us)) (sym e) (refl, p)
 
 -- the view v, once it is outside, in a badge
-pub sound_outside : (n : ℕ) (a : About) (limit : ℕ) (vs : List View) (v w : View) → vs ≡ w ∷ [] → w ≡ in_phase Outside v → v.live ≡ true → v.number ≡ n → v.about ≡ a → v.callers ≡ limit → IsConsistent v
+pub sound_outside : (n : ℕ) (a : About) (limit : ℕ) (vs : List View) (v w : View) → vs ≡ w ∷ [] → w ≡ in_phase Outside v → v.live ≡ true → v.number ≡ n → v.about ≡ a → v.callers ≡ limit
+    → IsConsistent v
     → (vs ≡ view_in vs ∷ []) × IsSound n a limit (view_in vs)
 sound_outside n a limit vs v w has e live number about callers consistent =
     held_in (IsSound n a limit) vs w has (subst (IsSound n a limit) (sym e) (live, refl, number, about, callers, consistent))

@@ -1,4 +1,5 @@
 -- What one history rules out, computed: two passes with one entry each, which both take for the first of the history.
+-- No clause needs it: worked examples.
 use Rattle.std.specs.Prelude.{◌⊎◌}
 use Rattle.std.proofs.Common.{◌≡◌, inl, inr, ℕ, List, [], ◌∷◌, refl, ap, sym, ◌∙◌, arith, Option}
 use mathlib.Core.Option as maybe

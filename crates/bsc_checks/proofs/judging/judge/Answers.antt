@@ -41,31 +41,36 @@ pub returns-in-Some-clause-only : goal.returns-in-Some-clause-only
 returns-in-Some-clause-only c =
     let m = c.args.m.now in
     let why = c.in-Some.ensures c.args.max in
-    only_of m c.args.place.now c.args.max (Ok c.refused.result) (c.refused.ensures m c.args.max c.in-Ok.ensures.0 (first_of_all m c.args.place.now c.args.max c.in-Some.refusal c.in-Ok.ensures.1 why) why.1)
+    only_of m c.args.place.now c.args.max (Ok c.refused.result) (c.refused.ensures m c.args.max c.in-Ok.ensures.0
+    (first_of_all m c.args.place.now c.args.max c.in-Some.refusal c.in-Ok.ensures.1 why) why.1)
 
 pub returns-in-Some-clause-outcome : goal.returns-in-Some-clause-outcome
 returns-in-Some-clause-outcome c =
     let m = c.args.m.now in
     let why = c.in-Some.ensures c.args.max in
-    outcome_is m c.args.place.now c.args.max c.refused.result (λ i. let f = c.type_inv.m i in omega (arith, f)) (c.refused.ensures m c.args.max c.in-Ok.ensures.0 (first_of_all m c.args.place.now c.args.max c.in-Some.refusal c.in-Ok.ensures.1 why) why.1)
+    outcome_is m c.args.place.now c.args.max c.refused.result (λ i. let f = c.type_inv.m i in omega (arith, f))
+    (c.refused.ensures m c.args.max c.in-Ok.ensures.0 (first_of_all m c.args.place.now c.args.max c.in-Some.refusal c.in-Ok.ensures.1 why) why.1)
 
 pub returns-in-Some-clause-carry : goal.returns-in-Some-clause-carry
 returns-in-Some-clause-carry c =
     let m = c.args.m.now in
     let why = c.in-Some.ensures c.args.max in
-    carries m c.args.place.now c.args.max (Ok c.refused.result) (c.refused.ensures m c.args.max c.in-Ok.ensures.0 (first_of_all m c.args.place.now c.args.max c.in-Some.refusal c.in-Ok.ensures.1 why) why.1)
+    carries m c.args.place.now c.args.max (Ok c.refused.result) (c.refused.ensures m c.args.max c.in-Ok.ensures.0
+    (first_of_all m c.args.place.now c.args.max c.in-Some.refusal c.in-Ok.ensures.1 why) why.1)
 
 pub returns-in-Some-clause-silent : goal.returns-in-Some-clause-silent
 returns-in-Some-clause-silent c =
     let m = c.args.m.now in
     let why = c.in-Some.ensures c.args.max in
-    silences m c.args.place.now c.args.max (Ok c.refused.result) (c.refused.ensures m c.args.max c.in-Ok.ensures.0 (first_of_all m c.args.place.now c.args.max c.in-Some.refusal c.in-Ok.ensures.1 why) why.1)
+    silences m c.args.place.now c.args.max (Ok c.refused.result) (c.refused.ensures m c.args.max c.in-Ok.ensures.0
+    (first_of_all m c.args.place.now c.args.max c.in-Some.refusal c.in-Ok.ensures.1 why) why.1)
 
 pub returns-in-Some-clause-nak : goal.returns-in-Some-clause-nak
 returns-in-Some-clause-nak c =
     let m = c.args.m.now in
     let why = c.in-Some.ensures c.args.max in
-    refuses m c.args.place.now c.args.max (Ok c.refused.result) (c.refused.ensures m c.args.max c.in-Ok.ensures.0 (first_of_all m c.args.place.now c.args.max c.in-Some.refusal c.in-Ok.ensures.1 why) why.1)
+    refuses m c.args.place.now c.args.max (Ok c.refused.result) (c.refused.ensures m c.args.max c.in-Ok.ensures.0
+    (first_of_all m c.args.place.now c.args.max c.in-Some.refusal c.in-Ok.ensures.1 why) why.1)
 
 pub returns-then-is_to_carry-clause-found : goal.returns-then-is_to_carry-clause-found
 returns-then-is_to_carry-clause-found c =
@@ -86,7 +91,8 @@ returns-then-is_to_carry-clause-outcome c =
     let m = c.args.m.now in
     let none = none_of_all m c.args.place.now c.args.max c.in-Ok.ensures.1 (c.in_default.ensures c.args.max) in
     let to_carry = c.is_to_carry.ensures m c.in-Ok.ensures.0 in
-    outcome_is m c.args.place.now c.args.max (Carry c.in-Ok.head) (λ i. let f = c.type_inv.m i in omega (arith, f)) (carried m c.in-Ok.head c.args.place.now c.args.max c.is_to_carry.result to_carry c.if-is_to_carry.true c.in-Ok.ensures.0 none)
+    outcome_is m c.args.place.now c.args.max (Carry c.in-Ok.head) (λ i. let f = c.type_inv.m i in omega (arith, f))
+    (carried m c.in-Ok.head c.args.place.now c.args.max c.is_to_carry.result to_carry c.if-is_to_carry.true c.in-Ok.ensures.0 none)
 
 pub returns-then-is_to_carry-clause-carry : goal.returns-then-is_to_carry-clause-carry
 returns-then-is_to_carry-clause-carry c =
@@ -168,25 +174,29 @@ returns-clause-only c =
     let m = c.args.m.now in
     let none = none_of_all m c.args.place.now c.args.max c.in-Ok.ensures.1 (c.in_default.ensures c.args.max) in
     let to_carry = c.is_to_carry.ensures m c.in-Ok.ensures.0 in
-    only_of m c.args.place.now c.args.max (Ok (Pass c.in_ok-message.message)) (passed m c.args.place.now c.args.max c.is_to_carry.result c.in_ok-message.message to_carry c.if-is_to_carry.false none c.in_ok-message.ensures.found)
+    only_of m c.args.place.now c.args.max (Ok (Pass c.in_ok-message.message))
+    (passed m c.args.place.now c.args.max c.is_to_carry.result c.in_ok-message.message to_carry c.if-is_to_carry.false none c.in_ok-message.ensures.found)
 
 pub returns-clause-outcome : goal.returns-clause-outcome
 returns-clause-outcome c =
     let m = c.args.m.now in
     let none = none_of_all m c.args.place.now c.args.max c.in-Ok.ensures.1 (c.in_default.ensures c.args.max) in
     let to_carry = c.is_to_carry.ensures m c.in-Ok.ensures.0 in
-    outcome_is m c.args.place.now c.args.max (Pass c.in_ok-message.message) (λ i. let f = c.type_inv.m i in omega (arith, f)) (passed m c.args.place.now c.args.max c.is_to_carry.result c.in_ok-message.message to_carry c.if-is_to_carry.false none c.in_ok-message.ensures.found)
+    outcome_is m c.args.place.now c.args.max (Pass c.in_ok-message.message) (λ i. let f = c.type_inv.m i in omega (arith, f))
+    (passed m c.args.place.now c.args.max c.is_to_carry.result c.in_ok-message.message to_carry c.if-is_to_carry.false none c.in_ok-message.ensures.found)
 
 pub returns-clause-silent : goal.returns-clause-silent
 returns-clause-silent c =
     let m = c.args.m.now in
     let none = none_of_all m c.args.place.now c.args.max c.in-Ok.ensures.1 (c.in_default.ensures c.args.max) in
     let to_carry = c.is_to_carry.ensures m c.in-Ok.ensures.0 in
-    silences m c.args.place.now c.args.max (Ok (Pass c.in_ok-message.message)) (passed m c.args.place.now c.args.max c.is_to_carry.result c.in_ok-message.message to_carry c.if-is_to_carry.false none c.in_ok-message.ensures.found)
+    silences m c.args.place.now c.args.max (Ok (Pass c.in_ok-message.message))
+    (passed m c.args.place.now c.args.max c.is_to_carry.result c.in_ok-message.message to_carry c.if-is_to_carry.false none c.in_ok-message.ensures.found)
 
 pub returns-clause-nak : goal.returns-clause-nak
 returns-clause-nak c =
     let m = c.args.m.now in
     let none = none_of_all m c.args.place.now c.args.max c.in-Ok.ensures.1 (c.in_default.ensures c.args.max) in
     let to_carry = c.is_to_carry.ensures m c.in-Ok.ensures.0 in
-    refuses m c.args.place.now c.args.max (Ok (Pass c.in_ok-message.message)) (passed m c.args.place.now c.args.max c.is_to_carry.result c.in_ok-message.message to_carry c.if-is_to_carry.false none c.in_ok-message.ensures.found)
+    refuses m c.args.place.now c.args.max (Ok (Pass c.in_ok-message.message))
+    (passed m c.args.place.now c.args.max c.is_to_carry.result c.in_ok-message.message to_carry c.if-is_to_carry.false none c.in_ok-message.ensures.found)

@@ -9,5 +9,6 @@ pub returns-clause-value : goal.returns-clause-value
 returns-clause-value c =
     let list = c.args.list.now in
     let order = order_true (precedes address_of) list c.requires in
-    let point = IsPartitionPoint-from_clause (λ x. at_most (address_of x) c.args.v.0) list c.partition_point.result c.partition_point.ensures.partitioned (parted address_of c.args.v.0 list order) (λ a r f k. search (rules, of_calls)) in
+    let point = IsPartitionPoint-from_clause (λ x. at_most (address_of x) c.args.v.0) list c.partition_point.result c.partition_point.ensures.partitioned
+    (parted address_of c.args.v.0 list order) (λ a r f k. search (rules, of_calls)) in
     point_is address_of c.args.v.0 list c.partition_point.result c.partition_point.ensures.bound point

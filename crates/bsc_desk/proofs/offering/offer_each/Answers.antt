@@ -7,7 +7,8 @@ use Rattle.bsc_desk.proofs.offering.offer_each.Goals as goal
 pub offer_one-fate-requires-clause-enough : goal.offer_one-fate-requires-clause-enough
 offer_one-fate-requires-clause-enough c =
     let o = out c.args.frame.now.message c.args.frame.now.sender in
-    let count = rest_at (is_offered c.args.conn o) c.args.conn o c.loop-row.row-index c.args.rows.now c.loop-row.invariant.0.0 c.loop-row.rows c.row-item.result c.loop-row.invariant.0.1 c.loop-row-test.true in
+    let count = rest_at (is_offered c.args.conn o) c.args.conn o c.loop-row.row-index c.args.rows.now c.loop-row.invariant.0.0 c.loop-row.rows c.row-item.result c.loop-row.invariant.0.1
+    c.loop-row-test.true in
     let most = c.loop-row.invariant.2 in
     omega arith
 
@@ -15,7 +16,9 @@ pub offer_one-fate-requires-clause-each : goal.offer_one-fate-requires-clause-ea
 offer_one-fate-requires-clause-each c = c.loop-row.invariant.1
 
 pub offer_one-fate-requires-clause-few : goal.offer_one-fate-requires-clause-few
-offer_one-fate-requires-clause-few c = few_at c.args.conn (out c.args.frame.now.message c.args.frame.now.sender) c.loop-row.row-index c.args.rows.now c.loop-row.invariant.0.0 c.loop-row.rows c.row-item.result c.loop-row.invariant.0.1 c.loop-row-test.true c.requires.few
+offer_one-fate-requires-clause-few c =
+    few_at c.args.conn (out c.args.frame.now.message c.args.frame.now.sender) c.loop-row.row-index c.args.rows.now c.loop-row.invariant.0.0 c.loop-row.rows c.row-item.result
+    c.loop-row.invariant.0.1 c.loop-row-test.true c.requires.few
 
 pub note-requires : goal.note-requires
 note-requires c =
@@ -42,7 +45,8 @@ loop-row-preserved c =
     let one : length (drop c.loop-row.row-index c.args.rows.now) ≡ length (drop (c.loop-row.row-index + 1) c.args.rows.now) + 1 = omega arith in (
       (
         fates ++ x ∷ [],
-        reach_next c.args.conn o c.loop-row.row-index c.args.rows.now fates c.loop-row.rows c.row-item.result x c.offer_one-fate.new.row c.loop-row-test.true c.loop-row.invariant.0.1 c.offer_one-fate.ensures.befalls,
+        reach_next c.args.conn o c.loop-row.row-index c.args.rows.now fates c.loop-row.rows c.row-item.result x c.offer_one-fate.new.row c.loop-row-test.true c.loop-row.invariant.0.1
+            c.offer_one-fate.ensures.befalls,
         c.note.ensures.tell fates c.loop-row.invariant.0.2,
       ),
       c.offer_one-fate.ensures.each,
@@ -56,5 +60,8 @@ returns c =
     let past = c.loop-row-test.false in
     let end = c.loop-row.auto.row-index-end in
     let all : c.loop-row.row-index ≡ length c.args.rows.now = omega arith in
-    let fates = c.loop-row.invariant.0.0 in
-    (fates, reach_end c.args.conn o c.args.rows.now fates c.loop-row.rows (subst (λ k. Reach c.args.conn o k c.args.rows.now fates c.loop-row.rows) all c.loop-row.invariant.0.1), c.loop-row.invariant.0.2)
+    let fates = c.loop-row.invariant.0.0 in (
+      fates,
+      reach_end c.args.conn o c.args.rows.now fates c.loop-row.rows (subst (λ k. Reach c.args.conn o k c.args.rows.now fates c.loop-row.rows) all c.loop-row.invariant.0.1),
+      c.loop-row.invariant.0.2,
+    )

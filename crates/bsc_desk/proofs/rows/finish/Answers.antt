@@ -8,4 +8,5 @@ pub returns-in-None-clause-items : goal.returns-in-None-clause-items
 returns-in-None-clause-items c = finish_nobody c.args.conn c.args.ending c.args.rows.now.items c.in-None.is
 
 pub returns-in-Some-clause-items : goal.returns-in-Some-clause-items
-returns-in-Some-clause-items c = subst (λ (o : Option ℕ). EachBecomes (λ r s. FinishesIf (is_row o r) c.args.ending r s) c.args.rows.now.items c.finish_one.new.rows.items) (sym c.in-Some.is) c.finish_one.ensures.items
+returns-in-Some-clause-items c = subst (λ (o : Option ℕ). EachBecomes (λ r s. FinishesIf (is_row o r) c.args.ending r s) c.args.rows.now.items c.finish_one.new.rows.items)
+    (sym c.in-Some.is) c.finish_one.ensures.items

@@ -11,4 +11,5 @@ returns-then-place-rows c passes =
     let rows = c.args.rows.now in
     let i = c.args.place in
     let row = c.index-rows-place.result in
-    at_holder c.args.v rows i (order_true (gives_way address_of) rows c.requires) c.if-place-rows.true (λ d. ap (holds c.args.v) (get_or_default rows i d row c.if-place-rows.true ∙ sym c.index-rows-place.is) ∙ sym c.is_holder.ensures ∙ passes)
+    at_holder c.args.v rows i (order_true (gives_way address_of) rows c.requires) c.if-place-rows.true
+    (λ d. ap (holds c.args.v) (get_or_default rows i d row c.if-place-rows.true ∙ sym c.index-rows-place.is) ∙ sym c.is_holder.ensures ∙ passes)

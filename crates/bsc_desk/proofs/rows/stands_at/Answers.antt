@@ -12,4 +12,5 @@ returns-then-place-rows c passes =
     let rows = c.args.rows.now in
     let i = c.args.place in
     let row = c.index-rows-place.result in
-    at_place c.args.conn rows i (order_true rises rows c.requires) c.if-place-rows.true (λ d. ap (λ (r : Row). r.connection.number) (get_or_default rows i d row c.if-place-rows.true) ∙ eqb-true (get_or rows i row).connection.number c.args.conn passes)
+    at_place c.args.conn rows i (order_true rises rows c.requires) c.if-place-rows.true
+    (λ d. ap (λ (r : Row). r.connection.number) (get_or_default rows i d row c.if-place-rows.true) ∙ eqb-true (get_or rows i row).connection.number c.args.conn passes)

@@ -24,5 +24,6 @@ returns-then-accepts-gt1 c = first_outside 4 c.args.p.now 6 (is_there 4 c.args.p
 pub returns : goal.returns
 returns c =
     let p = c.args.p.now in
-    let spelled = advert_spelled p c.read_u16.result c.read_u16-2.result (omega arith) (λ i. let f = c.type_inv.p i in omega (arith, f)) (c.read_u16.ensures ∙ ap (big_number 2) (take_rest p 2)) (c.read_u16-2.ensures ∙ ap (big_number 2) (take_rest p 4)) in
+    let spelled = advert_spelled p c.read_u16.result c.read_u16-2.result (omega arith) (λ i. let f = c.type_inv.p i in omega (arith, f))
+    (c.read_u16.ensures ∙ ap (big_number 2) (take_rest p 2)) (c.read_u16-2.ensures ∙ ap (big_number 2) (take_rest p 4)) in
     (search rules, refl, spelled)

@@ -17,4 +17,5 @@ pub returns-then-eq : goal.returns-then-eq
 returns-then-eq c = node_outside c.args.p.now (omega arith) (inl (vmac_read c.args.p.now c.read_identity-who.result zero_vmac c.eq.result c.read_identity-who.ensures.read c.eq.ensures c.if-eq.true))
 
 pub returns-then-eq-2 : goal.returns-then-eq-2
-returns-then-eq-2 c = node_outside c.args.p.now (omega arith) (inr (vmac_read c.args.p.now c.read_identity-who.result broadcast c.eq-2.result c.read_identity-who.ensures.read c.eq-2.ensures c.if-eq-2.true))
+returns-then-eq-2 c =
+    node_outside c.args.p.now (omega arith) (inr (vmac_read c.args.p.now c.read_identity-who.result broadcast c.eq-2.result c.read_identity-who.ensures.read c.eq-2.ensures c.if-eq-2.true))

@@ -10,5 +10,6 @@ pub returns-in-Err : goal.returns-in-Err
 returns-in-Err c =
     let clauses = c.check_options.ensures in (
       c.if-not-announced.false,
-      item_of_fault c.args.announced c.args.m.now c.args.at c.check_options.result c.in-Err.field-0 c.if-not-announced.false c.requires.whole clauses.cut.0 clauses.bad_kind.0 clauses.bad_shape.0 clauses.memory c.in-Err.is,
+      item_of_fault c.args.announced c.args.m.now c.args.at c.check_options.result c.in-Err.field-0 c.if-not-announced.false c.requires.whole clauses.cut.0 clauses.bad_kind.0
+          clauses.bad_shape.0 clauses.memory c.in-Err.is,
     )

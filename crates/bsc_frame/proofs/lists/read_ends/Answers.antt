@@ -48,7 +48,8 @@ returns-then-has_fault-2 c =
     let other = c.in-Some-end_of.ensures.found in
     let fault = c.if-has_fault-2.ensures in
     let lists = are_lists m e facts dest.result more.result dest.ensures more.ensures list.0 other.0 c.in-Some.dest c.in-Some-end_of.data list.1 other.1 in
-    first_bad m c.in-Some.dest c.in-Some-end_of.data list.0 other.0 lists (inr (of_second (HasItemAtFault m) m e facts dest.result more.result dest.ensures more.ensures fault.0 list.0 c.in-Some.dest list.1 fault.1))
+    first_bad m c.in-Some.dest c.in-Some-end_of.data list.0 other.0 lists (inr
+    (of_second (HasItemAtFault m) m e facts dest.result more.result dest.ensures more.ensures fault.0 list.0 c.in-Some.dest list.1 fault.1))
 
 pub returns-then-head-ne-PROPRIETARY_MESSAGE : goal.returns-then-head-ne-PROPRIETARY_MESSAGE
 returns-then-head-ne-PROPRIETARY_MESSAGE c =

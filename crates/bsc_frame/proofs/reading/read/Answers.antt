@@ -44,7 +44,8 @@ returns-in_err-body-clause-only c =
     let e = err_from_is_err_and r c.from_residual-in_err-body.ensures.1 in
     let ends = c.in_ok-ends.ends in
     let lists = c.in_ok-ends.ensures in
-    only_of m c.from_residual-in_err-body.result (payload_answers m r e.0 c.in_err-body.field-0.0 c.in_ok-head.head ends.dest ends.data lists.0 lists.1 _ e.1 e.2 (take_rest m ends.data) c.in_ok-head.ensures lists.2 c.in_err-body.ensures)
+    only_of m c.from_residual-in_err-body.result (payload_answers m r e.0 c.in_err-body.field-0.0 c.in_ok-head.head ends.dest ends.data lists.0 lists.1 _ e.1 e.2
+    (take_rest m ends.data) c.in_ok-head.ensures lists.2 c.in_err-body.ensures)
 
 pub returns-in_err-body-clause-memory : goal.returns-in_err-body-clause-memory
 returns-in_err-body-clause-memory c =
@@ -53,7 +54,8 @@ returns-in_err-body-clause-memory c =
     let e = err_from_is_err_and r c.from_residual-in_err-body.ensures.1 in
     let ends = c.in_ok-ends.ends in
     let lists = c.in_ok-ends.ensures in
-    memory_then m c.from_residual-in_err-body.result (payload_answers m r e.0 c.in_err-body.field-0.0 c.in_ok-head.head ends.dest ends.data lists.0 lists.1 _ e.1 e.2 (take_rest m ends.data) c.in_ok-head.ensures lists.2 c.in_err-body.ensures)
+    memory_then m c.from_residual-in_err-body.result (payload_answers m r e.0 c.in_err-body.field-0.0 c.in_ok-head.head ends.dest ends.data lists.0 lists.1 _ e.1 e.2
+    (take_rest m ends.data) c.in_ok-head.ensures lists.2 c.in_err-body.ensures)
 
 pub returns-in_err-body-clause-fails : goal.returns-in_err-body-clause-fails
 returns-in_err-body-clause-fails c =
@@ -62,7 +64,8 @@ returns-in_err-body-clause-fails c =
     let e = err_from_is_err_and r c.from_residual-in_err-body.ensures.1 in
     let ends = c.in_ok-ends.ends in
     let lists = c.in_ok-ends.ensures in
-    fails_where m c.from_residual-in_err-body.result (payload_answers m r e.0 c.in_err-body.field-0.0 c.in_ok-head.head ends.dest ends.data lists.0 lists.1 _ e.1 e.2 (take_rest m ends.data) c.in_ok-head.ensures lists.2 c.in_err-body.ensures)
+    fails_where m c.from_residual-in_err-body.result (payload_answers m r e.0 c.in_err-body.field-0.0 c.in_ok-head.head ends.dest ends.data lists.0 lists.1 _ e.1 e.2
+    (take_rest m ends.data) c.in_ok-head.ensures lists.2 c.in_err-body.ensures)
 
 pub returns-in_err-dest_options-clause-memory : goal.returns-in_err-dest_options-clause-memory
 returns-in_err-dest_options-clause-memory c =
@@ -72,7 +75,8 @@ returns-in_err-dest_options-clause-memory c =
     let ends = c.in_ok-ends.ends in
     let lists = c.in_ok-ends.ensures in
     let head = c.in_ok-head.head in
-    memory_then m c.from_residual-in_err-dest_options.result (memory_answers m r e.0 head ends.dest ends.data lists.0 lists.1 c.in_ok-body.body e.1 e.2 c.in_ok-head.ensures lists.2 (subst (λ p. IsBody head.function p c.in_ok-body.body) (take_rest m ends.data) c.in_ok-body.ensures))
+    memory_then m c.from_residual-in_err-dest_options.result (memory_answers m r e.0 head ends.dest ends.data lists.0 lists.1 c.in_ok-body.body e.1 e.2 c.in_ok-head.ensures lists.2
+    (subst (λ p. IsBody head.function p c.in_ok-body.body) (take_rest m ends.data) c.in_ok-body.ensures))
 
 pub returns-in_err-dest_options-clause-fails : goal.returns-in_err-dest_options-clause-fails
 returns-in_err-dest_options-clause-fails c =
@@ -82,7 +86,8 @@ returns-in_err-dest_options-clause-fails c =
     let ends = c.in_ok-ends.ends in
     let lists = c.in_ok-ends.ensures in
     let head = c.in_ok-head.head in
-    fails_where m c.from_residual-in_err-dest_options.result (memory_answers m r e.0 head ends.dest ends.data lists.0 lists.1 c.in_ok-body.body e.1 e.2 c.in_ok-head.ensures lists.2 (subst (λ p. IsBody head.function p c.in_ok-body.body) (take_rest m ends.data) c.in_ok-body.ensures))
+    fails_where m c.from_residual-in_err-dest_options.result (memory_answers m r e.0 head ends.dest ends.data lists.0 lists.1 c.in_ok-body.body e.1 e.2 c.in_ok-head.ensures lists.2
+    (subst (λ p. IsBody head.function p c.in_ok-body.body) (take_rest m ends.data) c.in_ok-body.ensures))
 
 pub returns-in_err-data_options-clause-memory : goal.returns-in_err-data_options-clause-memory
 returns-in_err-data_options-clause-memory c =
@@ -92,7 +97,8 @@ returns-in_err-data_options-clause-memory c =
     let ends = c.in_ok-ends.ends in
     let lists = c.in_ok-ends.ensures in
     let head = c.in_ok-head.head in
-    memory_then m c.from_residual-in_err-data_options.result (memory_answers m r e.0 head ends.dest ends.data lists.0 lists.1 c.in_ok-body.body e.1 e.2 c.in_ok-head.ensures lists.2 (subst (λ p. IsBody head.function p c.in_ok-body.body) (take_rest m ends.data) c.in_ok-body.ensures))
+    memory_then m c.from_residual-in_err-data_options.result (memory_answers m r e.0 head ends.dest ends.data lists.0 lists.1 c.in_ok-body.body e.1 e.2 c.in_ok-head.ensures lists.2
+    (subst (λ p. IsBody head.function p c.in_ok-body.body) (take_rest m ends.data) c.in_ok-body.ensures))
 
 pub returns-in_err-data_options-clause-fails : goal.returns-in_err-data_options-clause-fails
 returns-in_err-data_options-clause-fails c =
@@ -102,7 +108,8 @@ returns-in_err-data_options-clause-fails c =
     let ends = c.in_ok-ends.ends in
     let lists = c.in_ok-ends.ensures in
     let head = c.in_ok-head.head in
-    fails_where m c.from_residual-in_err-data_options.result (memory_answers m r e.0 head ends.dest ends.data lists.0 lists.1 c.in_ok-body.body e.1 e.2 c.in_ok-head.ensures lists.2 (subst (λ p. IsBody head.function p c.in_ok-body.body) (take_rest m ends.data) c.in_ok-body.ensures))
+    fails_where m c.from_residual-in_err-data_options.result (memory_answers m r e.0 head ends.dest ends.data lists.0 lists.1 c.in_ok-body.body e.1 e.2 c.in_ok-head.ensures lists.2
+    (subst (λ p. IsBody head.function p c.in_ok-body.body) (take_rest m ends.data) c.in_ok-body.ensures))
 
 pub returns-clause-found : goal.returns-clause-found
 returns-clause-found c =
@@ -112,9 +119,12 @@ returns-clause-found c =
     let head = c.in_ok-head.head in
     let dest = c.announces_dest_options-dest_announced in
     let more = c.announces_data_options-data_announced in
-    let first = list_answers c.in_ok-dest_options.dest_options m head.rest_at ends.dest lists.0 dest.result (announces_dest_options head.flags) dest.ensures c.in_ok-dest_options.ensures lists.2.dest_list in
-    let second = list_answers c.in_ok-data_options.data_options m ends.dest ends.data lists.1 more.result (announces_data_options head.flags) more.ensures c.in_ok-data_options.ensures lists.2.data_list in
-    message_answers m head ends.dest ends.data lists.0 lists.1 c.in_ok-body.body c.in_ok-dest_options.dest_options c.in_ok-data_options.data_options _ (take_rest m ends.data) first second c.in_ok-head.ensures lists.2 c.in_ok-body.ensures
+    let first = list_answers c.in_ok-dest_options.dest_options m head.rest_at ends.dest lists.0 dest.result
+    (announces_dest_options head.flags) dest.ensures c.in_ok-dest_options.ensures lists.2.dest_list in
+    let second = list_answers c.in_ok-data_options.data_options m ends.dest ends.data lists.1 more.result
+    (announces_data_options head.flags) more.ensures c.in_ok-data_options.ensures lists.2.data_list in
+    message_answers m head ends.dest ends.data lists.0 lists.1 c.in_ok-body.body c.in_ok-dest_options.dest_options c.in_ok-data_options.data_options _
+    (take_rest m ends.data) first second c.in_ok-head.ensures lists.2 c.in_ok-body.ensures
 
 pub returns-clause-only : goal.returns-clause-only
 returns-clause-only c =
@@ -124,9 +134,13 @@ returns-clause-only c =
     let head = c.in_ok-head.head in
     let dest = c.announces_dest_options-dest_announced in
     let more = c.announces_data_options-data_announced in
-    let first = list_answers c.in_ok-dest_options.dest_options m head.rest_at ends.dest lists.0 dest.result (announces_dest_options head.flags) dest.ensures c.in_ok-dest_options.ensures lists.2.dest_list in
-    let second = list_answers c.in_ok-data_options.data_options m ends.dest ends.data lists.1 more.result (announces_data_options head.flags) more.ensures c.in_ok-data_options.ensures lists.2.data_list in
-    only_of m (Ok (message_of head c.in_ok-dest_options.dest_options c.in_ok-data_options.data_options c.in_ok-body.body)) (message_answers m head ends.dest ends.data lists.0 lists.1 c.in_ok-body.body c.in_ok-dest_options.dest_options c.in_ok-data_options.data_options _ (take_rest m ends.data) first second c.in_ok-head.ensures lists.2 c.in_ok-body.ensures)
+    let first = list_answers c.in_ok-dest_options.dest_options m head.rest_at ends.dest lists.0 dest.result
+    (announces_dest_options head.flags) dest.ensures c.in_ok-dest_options.ensures lists.2.dest_list in
+    let second = list_answers c.in_ok-data_options.data_options m ends.dest ends.data lists.1 more.result
+    (announces_data_options head.flags) more.ensures c.in_ok-data_options.ensures lists.2.data_list in
+    only_of m (Ok (message_of head c.in_ok-dest_options.dest_options c.in_ok-data_options.data_options c.in_ok-body.body))
+    (message_answers m head ends.dest ends.data lists.0 lists.1 c.in_ok-body.body c.in_ok-dest_options.dest_options c.in_ok-data_options.data_options _
+    (take_rest m ends.data) first second c.in_ok-head.ensures lists.2 c.in_ok-body.ensures)
 
 pub returns-clause-fails : goal.returns-clause-fails
 returns-clause-fails c =
@@ -136,6 +150,10 @@ returns-clause-fails c =
     let head = c.in_ok-head.head in
     let dest = c.announces_dest_options-dest_announced in
     let more = c.announces_data_options-data_announced in
-    let first = list_answers c.in_ok-dest_options.dest_options m head.rest_at ends.dest lists.0 dest.result (announces_dest_options head.flags) dest.ensures c.in_ok-dest_options.ensures lists.2.dest_list in
-    let second = list_answers c.in_ok-data_options.data_options m ends.dest ends.data lists.1 more.result (announces_data_options head.flags) more.ensures c.in_ok-data_options.ensures lists.2.data_list in
-    fails_where m (Ok (message_of head c.in_ok-dest_options.dest_options c.in_ok-data_options.data_options c.in_ok-body.body)) (message_answers m head ends.dest ends.data lists.0 lists.1 c.in_ok-body.body c.in_ok-dest_options.dest_options c.in_ok-data_options.data_options _ (take_rest m ends.data) first second c.in_ok-head.ensures lists.2 c.in_ok-body.ensures)
+    let first = list_answers c.in_ok-dest_options.dest_options m head.rest_at ends.dest lists.0 dest.result
+    (announces_dest_options head.flags) dest.ensures c.in_ok-dest_options.ensures lists.2.dest_list in
+    let second = list_answers c.in_ok-data_options.data_options m ends.dest ends.data lists.1 more.result
+    (announces_data_options head.flags) more.ensures c.in_ok-data_options.ensures lists.2.data_list in
+    fails_where m (Ok (message_of head c.in_ok-dest_options.dest_options c.in_ok-data_options.data_options c.in_ok-body.body))
+    (message_answers m head ends.dest ends.data lists.0 lists.1 c.in_ok-body.body c.in_ok-dest_options.dest_options c.in_ok-data_options.data_options _
+    (take_rest m ends.data) first second c.in_ok-head.ensures lists.2 c.in_ok-body.ensures)

@@ -7,4 +7,5 @@ returns-clause-pass g c = (c.forward_one-told.new.pass, c.forward_one-told.ensur
 pub returns-clause-there : goal.returns-clause-there
 returns-clause-there g c =
     let told = c.forward_one-told in
-    told_there c.args.hub.now c.args.sender told.new.pass c.join.new.pass c.args.conn c.args.frame told.result told.ensures.pass c.join.ensures.pass.caller c.join.ensures.seen.2 c.requires.own c.requires.unicast
+    told_there c.args.hub.now c.args.sender told.new.pass c.join.new.pass c.args.conn c.args.frame told.result told.ensures.pass c.join.ensures.pass.caller c.join.ensures.seen.2
+    c.requires.own c.requires.unicast

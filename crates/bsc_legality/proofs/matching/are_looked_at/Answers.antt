@@ -14,6 +14,9 @@ loop-row-preserved c =
     let xs = c.args.rows.now in
     let i = c.loop-row.row-index in
     elim c.if-is_looked_at.branch [
-      | then-is_looked_at+else-not-is_look_at w ↦ subst (λ (n : ℕ). Matches f p ks n xs (i + 1)) (sym w.at-is) (matched f p ks c.loop-row.at xs i c.row-item.result c.loop-row-test.true c.row-item.is (sym c.is_looked_at.ensures ∙ w.if-is_looked_at.true) (sym w.is_look_at.ensures ∙ w.if-not-is_look_at.false) c.loop-row.invariant)
-      | else-is_looked_at w ↦ subst (λ (n : ℕ). Matches f p ks n xs (i + 1)) (sym w.at-is) (passed_over f p ks c.loop-row.at xs i c.row-item.result c.loop-row-test.true c.row-item.is (sym c.is_looked_at.ensures ∙ w.if-is_looked_at.false) c.loop-row.invariant)
+      | then-is_looked_at+else-not-is_look_at w ↦ subst (λ (n : ℕ). Matches f p ks n xs (i + 1)) (sym w.at-is)
+          (matched f p ks c.loop-row.at xs i c.row-item.result c.loop-row-test.true c.row-item.is (sym c.is_looked_at.ensures ∙ w.if-is_looked_at.true)
+          (sym w.is_look_at.ensures ∙ w.if-not-is_look_at.false) c.loop-row.invariant)
+      | else-is_looked_at w ↦ subst (λ (n : ℕ). Matches f p ks n xs (i + 1)) (sym w.at-is)
+          (passed_over f p ks c.loop-row.at xs i c.row-item.result c.loop-row-test.true c.row-item.is (sym c.is_looked_at.ensures ∙ w.if-is_looked_at.false) c.loop-row.invariant)
     ]

@@ -13,6 +13,9 @@ loop-row-preserved c =
     let xs = c.args.rows.now in
     let i = c.loop-row.row-index in
     elim c.if-is_skipped.branch [
-      | then-is_skipped+else-not-stands_at w ↦ subst (λ (n : ℕ). Matches f p ks n xs (i + 1)) (sym w.at-is) (matched f p ks c.loop-row.at xs i c.row-item.result c.loop-row-test.true c.row-item.is (sym c.is_skipped.ensures ∙ w.if-is_skipped.true) (sym w.stands_at.ensures ∙ w.if-not-stands_at.false) c.loop-row.invariant)
-      | else-is_skipped w ↦ subst (λ (n : ℕ). Matches f p ks n xs (i + 1)) (sym w.at-is) (passed_over f p ks c.loop-row.at xs i c.row-item.result c.loop-row-test.true c.row-item.is (sym c.is_skipped.ensures ∙ w.if-is_skipped.false) c.loop-row.invariant)
+      | then-is_skipped+else-not-stands_at w ↦ subst (λ (n : ℕ). Matches f p ks n xs (i + 1)) (sym w.at-is)
+          (matched f p ks c.loop-row.at xs i c.row-item.result c.loop-row-test.true c.row-item.is (sym c.is_skipped.ensures ∙ w.if-is_skipped.true)
+          (sym w.stands_at.ensures ∙ w.if-not-stands_at.false) c.loop-row.invariant)
+      | else-is_skipped w ↦ subst (λ (n : ℕ). Matches f p ks n xs (i + 1)) (sym w.at-is)
+          (passed_over f p ks c.loop-row.at xs i c.row-item.result c.loop-row-test.true c.row-item.is (sym c.is_skipped.ensures ∙ w.if-is_skipped.false) c.loop-row.invariant)
     ]

@@ -13,6 +13,8 @@ loop-look-preserved c =
     let xs = c.args.looks.now in
     let i = c.loop-look.look-index in
     elim c.if-fares_so.branch [
-      | then-fares_so+else-not-stands_at w ↦ subst (λ (n : ℕ). Matches f p ks n xs (i + 1)) (sym w.at-is) (matched_at f p ks c.loop-look.at xs i _ c.loop-look-test.true (sym c.fares_so.ensures ∙ w.if-fares_so.true) (sym w.stands_at.ensures ∙ w.if-not-stands_at.false) c.loop-look.invariant)
-      | else-fares_so w ↦ subst (λ (n : ℕ). Matches f p ks n xs (i + 1)) (sym w.at-is) (passed_over_at f p ks c.loop-look.at xs i _ c.loop-look-test.true (sym c.fares_so.ensures ∙ w.if-fares_so.false) c.loop-look.invariant)
+      | then-fares_so+else-not-stands_at w ↦ subst (λ (n : ℕ). Matches f p ks n xs (i + 1)) (sym w.at-is)
+          (matched_at f p ks c.loop-look.at xs i _ c.loop-look-test.true (sym c.fares_so.ensures ∙ w.if-fares_so.true) (sym w.stands_at.ensures ∙ w.if-not-stands_at.false) c.loop-look.invariant)
+      | else-fares_so w ↦ subst (λ (n : ℕ). Matches f p ks n xs (i + 1)) (sym w.at-is)
+          (passed_over_at f p ks c.loop-look.at xs i _ c.loop-look-test.true (sym c.fares_so.ensures ∙ w.if-fares_so.false) c.loop-look.invariant)
     ]

@@ -11,4 +11,5 @@ returns-in_err-marker-clause-none c =
 pub returns-in_err-content-clause-none : goal.returns-in_err-content-clause-none
 returns-in_err-content-clause-none c =
     let cut = subst (λ b. IsCutData b c.in_ok-marker.rest.now) c.has_data.ensures c.in_err-content.ensures.none in
-    rw c.from_residual-in_err-content.ensures (cut_item c.args.o.now c.in_ok-marker.marker.now c.in_ok-marker.rest.now (λ i. let f = c.type_inv.o i in omega (arith, f)) c.in_ok-marker.ensures.cases.0 cut)
+    rw c.from_residual-in_err-content.ensures (cut_item c.args.o.now c.in_ok-marker.marker.now c.in_ok-marker.rest.now
+    (λ i. let f = c.type_inv.o i in omega (arith, f)) c.in_ok-marker.ensures.cases.0 cut)

@@ -9,7 +9,8 @@ loop-first-preserved c =
     let first = c.in-Some.first in
     let same : c.in_ok-owned.field-0 ≡ item_of first = c.in_ok-owned.ensures in
     let pushed : c.push.new.self ≡ c.loop-first.options ++ item_of first ∷ [] = c.in_ok-push.ensures.ok ∙ ap (λ (i : OptionItem). c.loop-first.options ++ i ∷ []) same in
-    rw pushed (items_on c.args.list.now c.loop-first.rest.now first.rest.now c.loop-first.options first.follows (item_of first) c.loop-first.invariant c.in-Some.ensures.found.0 c.in-Some.ensures.found.1)
+    rw pushed (items_on c.args.list.now c.loop-first.rest.now first.rest.now c.loop-first.options first.follows
+    (item_of first) c.loop-first.invariant c.in-Some.ensures.found.0 c.in-Some.ensures.found.1)
 
 pub returns : goal.returns
 returns c = items_done c.args.list.now c.loop-first.rest.now c.loop-first.options c.loop-first.invariant c.in_default.ensures.none

@@ -9,7 +9,8 @@ returns-then-not-first-clause-found c =
     let first = c.in-Some.first in
     let walked = c.loop-first.invariant in
     let whole : c.loop-first.rest.now ≡ item_octets first.follows (item_of first) ++ first.rest.now = c.in-Some.ensures.found.1 in
-    let last : c.loop-first.rest.now ≡ item_octets false (item_of first) ++ first.rest.now = subst (λ (b : Bool). c.loop-first.rest.now ≡ item_octets b (item_of first) ++ first.rest.now) c.if-not-first.true whole in
+    let last : c.loop-first.rest.now ≡ item_octets false (item_of first) ++ first.rest.now =
+    subst (λ (b : Bool). c.loop-first.rest.now ≡ item_octets b (item_of first) ++ first.rest.now) c.if-not-first.true whole in
     let place : (length c.args.o.now - length first.rest.now) + length first.rest.now ≡ length c.args.o.now =
     omega (arith, ap length walked.2, length-append (chain walked.0) c.loop-first.rest.now, ap length whole, length-append (item_octets first.follows (item_of first)) first.rest.now) in
     walked_out c.args.o.now c.loop-first.rest.now first.rest.now (item_of first) _ walked c.in-Some.ensures.found.0 last place

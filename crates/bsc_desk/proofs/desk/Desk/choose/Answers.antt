@@ -14,5 +14,7 @@ returns-clause-free c =
     let d = c.args.self.now in
     let who = c.args.who.now in
     let joined : NewRow = record { conn = 1 + d.tally.counts.joined; replaced = c.number_of.result } in
-    if_both c.first_case.result (λ row. c.rival-held.result ≡ None) (λ row. row ≡ joined) (λ row. IsTrue (list_all (gives_place who row.replaced) d.rows.items)) c.first_case.ensures.rival c.first_case.ensures.row (λ row none is.
-    free_by d.rows.items d.tally.counts.joined d.directory who c.holder.result c.of_device.result c.rival-held.result row.replaced d.filed c.holder.ensures c.of_device.ensures c.rival-held.ensures none (ap (λ (r : NewRow). r.replaced) is ∙ c.number_of.ensures))
+    if_both c.first_case.result (λ row. c.rival-held.result ≡ None) (λ row. row ≡ joined)
+    (λ row. IsTrue (list_all (gives_place who row.replaced) d.rows.items)) c.first_case.ensures.rival c.first_case.ensures.row (λ row none is.
+    free_by d.rows.items d.tally.counts.joined d.directory who c.holder.result c.of_device.result c.rival-held.result row.replaced d.filed c.holder.ensures c.of_device.ensures
+    c.rival-held.ensures none (ap (λ (r : NewRow). r.replaced) is ∙ c.number_of.ensures))

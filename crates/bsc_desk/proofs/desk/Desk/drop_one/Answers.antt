@@ -5,9 +5,12 @@ use Rattle.bsc_desk.proofs.Unicasts.{unserved_one}
 use Rattle.bsc_desk.proofs.desk.Desk.drop_one.Goals as goal
 
 pub returns-clause-due : goal.returns-clause-due
-returns-clause-due c S p = (lawful_unserved c.args.self.now S c.args.caller c.args.conn c.args.frame.now c.args.ended p c.requires.unleft c.has_route.ensures c.requires.calls c.requires.unserved).replied
+returns-clause-due c S p =
+    (lawful_unserved c.args.self.now S c.args.caller c.args.conn c.args.frame.now c.args.ended p c.requires.unleft c.has_route.ensures c.requires.calls c.requires.unserved).replied
 
 pub returns-clause-stands : goal.returns-clause-stands
 returns-clause-stands c S p =
-    let counted = c.add.ensures.counts ∙ ap (plus c.args.self.now.tally.counts) (c.counts_of.ensures.value ∙ unserved_one c.args.caller c.args.conn c.args.frame.now.message c.args.ended c.one_unserved-reply.result c.one_unserved-reply.ensures c.requires.unicast) in
-    stands_unserved c.args.self.now _ S c.args.caller c.args.conn c.args.frame.now c.args.ended p c.requires.unleft c.has_route.ensures c.requires.calls c.requires.unserved refl refl c.add.ensures.made counted refl
+    let counted = c.add.ensures.counts ∙ ap (plus c.args.self.now.tally.counts)
+    (c.counts_of.ensures.value ∙ unserved_one c.args.caller c.args.conn c.args.frame.now.message c.args.ended c.one_unserved-reply.result c.one_unserved-reply.ensures c.requires.unicast) in
+    stands_unserved c.args.self.now _ S c.args.caller c.args.conn c.args.frame.now c.args.ended p c.requires.unleft c.has_route.ensures c.requires.calls c.requires.unserved refl refl
+    c.add.ensures.made counted refl

@@ -7,8 +7,10 @@ use Rattle.bsc_desk.proofs.desk.Desk.forward_all.Goals as goal
 use Rattle.bsc_lemmas.proofs.Options.{none_if}
 
 pub drop_all-requires-in-Some-clause-unserved : goal.drop_all-requires-in-Some-clause-unserved
-drop_all-requires-in-Some-clause-unserved c =
-    (none_if c.args.self.now.stopped_at (sym c.is_some.ensures ∙ c.if-is_some.false), sym (c.end_at.ensures ∙ ap (λ (rs : List Row). end_in (find (has_number c.args.conn) rs)) c.as_slice.ensures.value) ∙ c.in-Some.is)
+drop_all-requires-in-Some-clause-unserved c = (
+  none_if c.args.self.now.stopped_at (sym c.is_some.ensures ∙ c.if-is_some.false),
+  sym (c.end_at.ensures ∙ ap (λ (rs : List Row). end_in (find (has_number c.args.conn) rs)) c.as_slice.ensures.value) ∙ c.in-Some.is,
+)
 
 pub returns-in-Err-clause-memory : goal.returns-in-Err-clause-memory
 returns-in-Err-clause-memory c S p lacks =

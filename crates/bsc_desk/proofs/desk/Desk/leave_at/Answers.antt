@@ -20,13 +20,17 @@ returns-clause-outlet c S p = outlet_fits c.args.self.now c.args.conn c.args.pla
 pub returns-clause-due : goal.returns-clause-due
 returns-clause-due c S p =
     let d = c.args.self.now in
-    (lawful_leave d S c.args.caller c.args.conn c.args.outlet.empties c.remove-inlet.result c.args.outlet _ p c.requires.unleft (inlet_at d c.args.conn c.args.place c.remove-inlet.result c.requires.place c.remove-inlet.ensures.value S p) (returns-clause-outlet c S p) c.unwrap_or.ensures c.unite-remains.ensures.taken).replied
+    (lawful_leave d S c.args.caller c.args.conn c.args.outlet.empties c.remove-inlet.result c.args.outlet _ p c.requires.unleft
+    (inlet_at d c.args.conn c.args.place c.remove-inlet.result c.requires.place c.remove-inlet.ensures.value S p)
+    (returns-clause-outlet c S p) c.unwrap_or.ensures c.unite-remains.ensures.taken).replied
 
 pub returns-clause-stands : goal.returns-clause-stands
 returns-clause-stands c S p =
     let d = c.args.self.now in
-    let lawful = lawful_leave d S c.args.caller c.args.conn c.args.outlet.empties c.remove-inlet.result c.args.outlet _ p c.requires.unleft (inlet_at d c.args.conn c.args.place c.remove-inlet.result c.requires.place c.remove-inlet.ensures.value S p) (returns-clause-outlet c S p) c.unwrap_or.ensures c.unite-remains.ensures.taken in
-    stands_left d _ S c.args.caller c.args.conn c.args.outlet.empties c.args.place c.remove-inlet.result _ p lawful c.requires.place refl refl c.add.ensures.made c.add.ensures.counts c.remove-inlet.ensures.items
+    let lawful = lawful_leave d S c.args.caller c.args.conn c.args.outlet.empties c.remove-inlet.result c.args.outlet _ p c.requires.unleft
+    (inlet_at d c.args.conn c.args.place c.remove-inlet.result c.requires.place c.remove-inlet.ensures.value S p) (returns-clause-outlet c S p) c.unwrap_or.ensures c.unite-remains.ensures.taken in
+    stands_left d _ S c.args.caller c.args.conn c.args.outlet.empties c.args.place c.remove-inlet.result _ p lawful c.requires.place refl refl c.add.ensures.made c.add.ensures.counts
+    c.remove-inlet.ensures.items
 
 pub returns-clause-given : goal.returns-clause-given
 returns-clause-given c S p = given_first c.args.self.now S c.args.conn _ c.args.outlet (returns-clause-outlet c S p) c.unite-remains.ensures.taken
@@ -42,14 +46,19 @@ returns-clause-all c S p all =
 pub returns-clause-row : goal.returns-clause-row
 returns-clause-row c =
     let d = c.args.self.now in
-    ap (find (has_number c.args.conn)) (c.remove-inlet.ensures.items ∙ removed c.args.conn c.args.place c.remove-inlet.result d.rows.items c.requires.place (rows_rise d.rows.items d.filed.rising)) ∙ find_gone c.args.conn d.rows.items
+    ap (find (has_number c.args.conn)) (c.remove-inlet.ensures.items ∙ removed c.args.conn c.args.place c.remove-inlet.result d.rows.items c.requires.place
+    (rows_rise d.rows.items d.filed.rising)) ∙ find_gone c.args.conn d.rows.items
 
 pub returns-clause-others : goal.returns-clause-others
 returns-clause-others c k other =
     let d = c.args.self.now in
-    ap (find (has_number k)) (c.remove-inlet.ensures.items ∙ removed c.args.conn c.args.place c.remove-inlet.result d.rows.items c.requires.place (rows_rise d.rows.items d.filed.rising)) ∙ find_kept c.args.conn k d.rows.items other
+    ap (find (has_number k)) (c.remove-inlet.ensures.items ∙ removed c.args.conn c.args.place c.remove-inlet.result d.rows.items c.requires.place (rows_rise d.rows.items d.filed.rising))
+    ∙ find_kept c.args.conn k d.rows.items other
 
 pub invariant_of-self-clause-filed : goal.invariant_of-self-clause-filed
 invariant_of-self-clause-filed c =
     let d = c.args.self.now in
-    rw c.remove-inlet.ensures.items (subst (λ (n : ℕ). AreFiled (remove d.rows.items c.args.place) n c.leave.new.self) (sym (ap (λ (k : Counts). k.joined) c.add.ensures.counts ∙ add-zero d.tally.counts.joined)) (filed_left c.args.conn c.args.place c.remove-inlet.result d.rows.items d.tally.counts.joined d.directory c.leave.new.self c.requires.place (rows_rise d.rows.items d.filed.rising) c.leave.ensures.by_address c.leave.ensures.by_device d.filed))
+    rw c.remove-inlet.ensures.items (subst (λ (n : ℕ). AreFiled (remove d.rows.items c.args.place) n c.leave.new.self)
+    (sym (ap (λ (k : Counts). k.joined) c.add.ensures.counts ∙ add-zero d.tally.counts.joined))
+    (filed_left c.args.conn c.args.place c.remove-inlet.result d.rows.items d.tally.counts.joined d.directory c.leave.new.self c.requires.place
+    (rows_rise d.rows.items d.filed.rising) c.leave.ensures.by_address c.leave.ensures.by_device d.filed))

@@ -41,7 +41,9 @@ counts_of-requires-clause-few_missed c =
 pub returns-clause-due : goal.returns-clause-due
 returns-clause-due c S p =
     let cast = c.offer_all-to.ensures.fates in
-    (lawful_all c.args.self.now S c.args.caller c.args.conn c.args.frame.now cast.0 c.offer_all-to.new.rows.items c.from_vec.result c.from_vec-2.result c.from_vec-3.result c.from_vec-4.result p c.requires.unleft c.has_route.ensures c.requires.broadcast c.requires.calls c.requires.goes_on c.requires.current cast.1 (c.from_vec.ensures ∙ cast.2.to) (c.from_vec-2.ensures ∙ cast.2.missed) (c.from_vec-3.ensures ∙ cast.2.skipped) (c.from_vec-4.ensures ∙ cast.2.looks)).replied
+    (lawful_all c.args.self.now S c.args.caller c.args.conn c.args.frame.now cast.0 c.offer_all-to.new.rows.items c.from_vec.result c.from_vec-2.result c.from_vec-3.result
+    c.from_vec-4.result p c.requires.unleft c.has_route.ensures c.requires.broadcast c.requires.calls c.requires.goes_on c.requires.current cast.1 (c.from_vec.ensures ∙ cast.2.to)
+    (c.from_vec-2.ensures ∙ cast.2.missed) (c.from_vec-3.ensures ∙ cast.2.skipped) (c.from_vec-4.ensures ∙ cast.2.looks)).replied
 
 pub returns-clause-stands : goal.returns-clause-stands
 returns-clause-stands c S p =
@@ -52,7 +54,10 @@ returns-clause-stands c S p =
     let missed = ap length cast.2.missed in
     let k : c.len.result ≡ length (to_of cast.0) = omega (arith, c.offer_all-to.result.to.ok.0) in
     let j : c.len-2.result ≡ length (missed_of cast.0) = omega (arith, c.offer_all-to.result.missed.ok.0) in
-    stands_all c.args.self.now _ S c.args.caller c.args.conn c.args.frame.now cast.0 c.from_vec.result c.from_vec-2.result c.from_vec-3.result c.from_vec-4.result c.len.result c.len-2.result p c.requires.unleft c.has_route.ensures c.requires.broadcast c.requires.calls c.requires.goes_on c.requires.current cast.1 (c.from_vec.ensures ∙ cast.2.to) (c.from_vec-2.ensures ∙ cast.2.missed) (c.from_vec-3.ensures ∙ cast.2.skipped) (c.from_vec-4.ensures ∙ cast.2.looks) k j refl refl c.add.ensures.made (c.add.ensures.counts ∙ ap (plus c.args.self.now.tally.counts) c.counts_of.ensures.value)
+    stands_all c.args.self.now _ S c.args.caller c.args.conn c.args.frame.now cast.0 c.from_vec.result c.from_vec-2.result c.from_vec-3.result c.from_vec-4.result c.len.result c.len-2.result
+    p c.requires.unleft c.has_route.ensures c.requires.broadcast c.requires.calls c.requires.goes_on c.requires.current cast.1 (c.from_vec.ensures ∙ cast.2.to)
+    (c.from_vec-2.ensures ∙ cast.2.missed) (c.from_vec-3.ensures ∙ cast.2.skipped) (c.from_vec-4.ensures ∙ cast.2.looks) k j refl refl c.add.ensures.made
+    (c.add.ensures.counts ∙ ap (plus c.args.self.now.tally.counts) c.counts_of.ensures.value)
 
 pub returns-clause-learns : goal.returns-clause-learns
 returns-clause-learns c =
@@ -65,4 +70,5 @@ invariant_of-self-clause-filed c =
     let after = c.offer_all-to.new.rows.items in
     let cast = c.offer_all-to.ensures.fates in
     subst (λ (n : ℕ). AreFiled after n d.directory) (sym (ap (λ (k : Counts). k.joined) (c.add.ensures.counts ∙ ap (plus d.tally.counts) c.counts_of.ensures.value) ∙ add-zero d.tally.counts.joined))
-    (filed_each d.rows.items after d.tally.counts.joined d.directory (all_filed (is_meant c.args.conn) None (out c.args.frame.now.message c.args.frame.now.sender) (is_meant_open c.args.conn) d.rows.items cast.0 after cast.1) d.filed)
+    (filed_each d.rows.items after d.tally.counts.joined d.directory (all_filed (is_meant c.args.conn) None (out c.args.frame.now.message c.args.frame.now.sender)
+    (is_meant_open c.args.conn) d.rows.items cast.0 after cast.1) d.filed)

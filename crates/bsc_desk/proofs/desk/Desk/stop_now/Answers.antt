@@ -19,4 +19,6 @@ returns-clause-known c k = each_found known_in (λ r t. FinishesIf true Stopped 
 pub invariant_of-self-clause-filed : goal.invariant_of-self-clause-filed
 invariant_of-self-clause-filed c =
     let d = c.args.self.now in
-    subst (λ (n : ℕ). AreFiled c.finish_all.new.rows.items n d.directory) (sym (ap (λ (k : Counts). k.joined) c.add.ensures.counts ∙ add-zero d.tally.counts.joined)) (filed_each d.rows.items c.finish_all.new.rows.items d.tally.counts.joined d.directory (each_weaker (λ r t. FinishesIf true Stopped r t) StaysFiled d.rows.items c.finish_all.new.rows.items (finish_files true Stopped) c.finish_all.ensures.items) d.filed)
+    subst (λ (n : ℕ). AreFiled c.finish_all.new.rows.items n d.directory) (sym (ap (λ (k : Counts). k.joined) c.add.ensures.counts ∙ add-zero d.tally.counts.joined))
+    (filed_each d.rows.items c.finish_all.new.rows.items d.tally.counts.joined d.directory
+    (each_weaker (λ r t. FinishesIf true Stopped r t) StaysFiled d.rows.items c.finish_all.new.rows.items (finish_files true Stopped) c.finish_all.ensures.items) d.filed)

@@ -13,16 +13,21 @@ use Rattle.bsc_direct.proofs.Leaving.{same_leaves, up_leaves, up_held}
 use Rattle.bsc_direct.proofs.direct.Direct.establish.Goals as goal
 
 pub returns-in-Up-clause-answer : goal.returns-in-Up-clause-answer
-returns-in-Up-clause-answer c = came_up c.args.self.now _ c.args.own c.args.slot c.args.peer c.in-Up.replaced (omega (arith, c.args.self.now.slots.ok.0, c.args.self.now.all)) c.requires.claimed.within c.requires.claimed.claimed (is_unicast c.args.peer c.requires.unicast) (sym c.in-Up.ensures) c.come_up.ensures
+returns-in-Up-clause-answer c = came_up c.args.self.now _ c.args.own c.args.slot c.args.peer c.in-Up.replaced
+    (omega (arith, c.args.self.now.slots.ok.0, c.args.self.now.all)) c.requires.claimed.within c.requires.claimed.claimed (is_unicast c.args.peer c.requires.unicast)
+    (sym c.in-Up.ensures) c.come_up.ensures
 
 pub returns-in-Duplicate-clause-answer : goal.returns-in-Duplicate-clause-answer
-returns-in-Duplicate-clause-answer c = stays_down c.args.self.now c.args.own c.args.slot c.args.peer (Duplicate c.in-Duplicate.holder) (omega (arith, c.args.self.now.slots.ok.0, c.args.self.now.all)) (sym c.in-Duplicate.ensures) (λ calls. refl)
+returns-in-Duplicate-clause-answer c = stays_down c.args.self.now c.args.own c.args.slot c.args.peer (Duplicate c.in-Duplicate.holder)
+    (omega (arith, c.args.self.now.slots.ok.0, c.args.self.now.all)) (sym c.in-Duplicate.ensures) (λ calls. refl)
 
 pub returns-in-WrongPeer-clause-answer : goal.returns-in-WrongPeer-clause-answer
-returns-in-WrongPeer-clause-answer c = stays_down c.args.self.now c.args.own c.args.slot c.args.peer (WrongPeer c.in-WrongPeer.wanted) (omega (arith, c.args.self.now.slots.ok.0, c.args.self.now.all)) (sym c.in-WrongPeer.ensures) (λ calls. refl)
+returns-in-WrongPeer-clause-answer c = stays_down c.args.self.now c.args.own c.args.slot c.args.peer (WrongPeer c.in-WrongPeer.wanted)
+    (omega (arith, c.args.self.now.slots.ok.0, c.args.self.now.all)) (sym c.in-WrongPeer.ensures) (λ calls. refl)
 
 pub returns-in-Up-clause-held : goal.returns-in-Up-clause-held
-returns-in-Up-clause-held c = up_held c.args.self.now c.come_up.new.self c.args.slot c.args.peer c.in-Up.replaced (omega (arith, c.args.self.now.slots.ok.0, c.args.self.now.all, c.requires.claimed.within)) c.come_up.ensures
+returns-in-Up-clause-held c = up_held c.args.self.now c.come_up.new.self c.args.slot c.args.peer c.in-Up.replaced
+    (omega (arith, c.args.self.now.slots.ok.0, c.args.self.now.all, c.requires.claimed.within)) c.come_up.ensures
 
 pub returns-in-Up-clause-left : goal.returns-in-Up-clause-left
 returns-in-Up-clause-left c =

@@ -25,7 +25,10 @@ returns-in-Ok-clause-pass g c =
     let k = c.commit_joined-at.ensures in
     let knows = subst (λ who. view_of q ≡ after_commit (joined_stamped c.number-caller.result who c.in-Ok.row (outlet_mark c.args.outlet)) w) c.of-note.ensures k.2 in
     subst (λ n. Passed h p [] (placed c.commit_joined-at.result (joined_stamped n c.args.who c.in-Ok.row (outlet_mark c.args.outlet))) q) c.number-caller.ensures (
-    passed_with h p q w (joined_stamped c.number-caller.result c.args.who c.in-Ok.row (outlet_mark c.args.outlet)) c.commit_joined-at.result c.connect.new.self c.requires.caller (subst (λ t. IsPassOf fixed_of t q) e.guard.0 k.1) knows k.0 e.same e.seen (subst (λ m. DeskStands c.connect.new.self (w.seen ++ connect_stamped c.number-caller.result c.args.who m (JoinedReply c.in-Ok.row.conn c.in-Ok.row.replaced) ∷ [])) c.requires.mark (c.in-Ok.ensures.stands w.seen stands)) (c.in-Ok.ensures.about ∙ about)
+    passed_with h p q w (joined_stamped c.number-caller.result c.args.who c.in-Ok.row (outlet_mark c.args.outlet)) c.commit_joined-at.result c.connect.new.self c.requires.caller
+    (subst (λ t. IsPassOf fixed_of t q) e.guard.0 k.1) knows k.0 e.same e.seen
+    (subst (λ m. DeskStands c.connect.new.self (w.seen ++ connect_stamped c.number-caller.result c.args.who m (JoinedReply c.in-Ok.row.conn c.in-Ok.row.replaced) ∷ [])) c.requires.mark
+    (c.in-Ok.ensures.stands w.seen stands)) (c.in-Ok.ensures.about ∙ about)
     )
 
 pub returns-in-Ok-clause-due : goal.returns-in-Ok-clause-due
@@ -37,7 +40,8 @@ returns-in-Ok-clause-due g c =
     let about : c.state.result.now.about ≡ about_of h = ap (λ (d : Desk). d.about) c.state.ensures.value ∙ e.about ∙ h.fixed in
     c.in-Ok.ensures.due w.seen stands
     ∙ ap (λ (a : About). connect_due a (entries w.seen) c.args.who) about
-    ∙ ap (λ (F : List Entry). connect_due (about_of h) F c.args.who) (sym (found_with c.commit_joined-at.new.pass w (joined_stamped c.number-caller.result c.of-note.result.value c.in-Ok.row (outlet_mark c.args.outlet)) c.commit_joined-at.result c.commit_joined-at.ensures.2 c.commit_joined-at.ensures.0))
+    ∙ ap (λ (F : List Entry). connect_due (about_of h) F c.args.who) (sym (found_with c.commit_joined-at.new.pass w
+    (joined_stamped c.number-caller.result c.of-note.result.value c.in-Ok.row (outlet_mark c.args.outlet)) c.commit_joined-at.result c.commit_joined-at.ensures.2 c.commit_joined-at.ensures.0))
 
 pub returns-clause-pass : goal.returns-clause-pass
 returns-clause-pass g c =
@@ -54,7 +58,8 @@ returns-clause-pass g c =
     let knows = subst (λ who. view_of q ≡ after_commit (refused_stamped c.number-caller.result who arm.refusal) w) c.of-note.ensures k.2 in
     let stands_now = subst (λ r. DeskStands c.connect.new.self (w.seen ++ connect_adds c.number-caller.result c.args.who (inlet_mark c.args.inlet) r)) said (c.connect.ensures.stands w.seen stands) in
     subst (λ n. Passed h p [] (placed c.commit_refused-at.result (refused_stamped n c.args.who arm.refusal)) q) c.number-caller.ensures (
-    passed_with h p q w (refused_stamped c.number-caller.result c.args.who arm.refusal) c.commit_refused-at.result c.connect.new.self c.requires.caller (subst (λ t. IsPassOf fixed_of t q) e.guard.0 k.1) knows k.0 e.same e.seen stands_now (c.connect.ensures.about ∙ about)
+    passed_with h p q w (refused_stamped c.number-caller.result c.args.who arm.refusal) c.commit_refused-at.result c.connect.new.self c.requires.caller
+    (subst (λ t. IsPassOf fixed_of t q) e.guard.0 k.1) knows k.0 e.same e.seen stands_now (c.connect.ensures.about ∙ about)
     )
 
 pub returns-clause-due : goal.returns-clause-due

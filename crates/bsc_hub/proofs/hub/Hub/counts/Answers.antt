@@ -17,4 +17,5 @@ returns-in-Ok-clause-worn g c =
     let w = guard_view c.enter-guard.result in
     let stands : DeskStands c.state.result.now w.seen = subst (λ d. DeskStands d w.seen) (sym c.state.ensures.value) e.stands in
     let about : c.state.result.now.about ≡ about_of h = ap (λ (d : Desk). d.about) c.state.ensures.value ∙ e.about ∙ h.fixed in
-    worn_found _ _ _ w.seen _ about (found_with c.commit_count-at.new.pass w (count_stamped c.number-caller.result c.in-Ok.said) c.commit_count-at.result c.commit_count-at.ensures.2 c.commit_count-at.ensures.0) (c.in-Ok.ensures.worn w.seen stands)
+    worn_found _ _ _ w.seen _ about (found_with c.commit_count-at.new.pass w
+    (count_stamped c.number-caller.result c.in-Ok.said) c.commit_count-at.result c.commit_count-at.ensures.2 c.commit_count-at.ensures.0) (c.in-Ok.ensures.worn w.seen stands)

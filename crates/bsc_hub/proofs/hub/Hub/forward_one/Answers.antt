@@ -43,7 +43,8 @@ returns-in-Ok-clause-pass g c =
     let k = c.commit_one-at.ensures in
     let knows = subst (λ f. view_of q ≡ after_commit (one_stamped c.number-caller.result c.args.conn f.message c.in-Ok.said) w) c.of-note.ensures k.2 in
     subst (λ n. Passed h p [] (placed c.commit_one-at.result (one_stamped n c.args.conn c.args.frame.message c.in-Ok.said)) q) c.number-caller.ensures (
-    passed_with h p q w (one_stamped c.number-caller.result c.args.conn c.args.frame.message c.in-Ok.said) c.commit_one-at.result c.forward_one.new.self c.requires.caller (subst (λ t. IsPassOf fixed_of t q) e.guard.0 k.1) knows k.0 e.same e.seen (c.in-Ok.ensures.stands w.seen stands) (c.in-Ok.ensures.about ∙ about)
+    passed_with h p q w (one_stamped c.number-caller.result c.args.conn c.args.frame.message c.in-Ok.said) c.commit_one-at.result c.forward_one.new.self c.requires.caller
+    (subst (λ t. IsPassOf fixed_of t q) e.guard.0 k.1) knows k.0 e.same e.seen (c.in-Ok.ensures.stands w.seen stands) (c.in-Ok.ensures.about ∙ about)
     )
 
 pub returns-in-Ok-clause-due : goal.returns-in-Ok-clause-due
@@ -53,7 +54,8 @@ returns-in-Ok-clause-due g c =
     let w = guard_view c.enter-guard.result in
     let stands : DeskStands c.state.result.now w.seen = subst (λ d. DeskStands d w.seen) (sym c.state.ensures.value) e.stands in
     let about : c.state.result.now.about ≡ about_of h = ap (λ (d : Desk). d.about) c.state.ensures.value ∙ e.about ∙ h.fixed in
-    let found = found_with c.commit_one-at.new.pass w (one_stamped c.number-caller.result c.args.conn c.of-note.result.value.message c.in-Ok.said) c.commit_one-at.result c.commit_one-at.ensures.2 c.commit_one-at.ensures.0 in
+    let found = found_with c.commit_one-at.new.pass w
+    (one_stamped c.number-caller.result c.args.conn c.of-note.result.value.message c.in-Ok.said) c.commit_one-at.result c.commit_one-at.ensures.2 c.commit_one-at.ensures.0 in
     c.in-Ok.ensures.due w.seen stands
     ∙ ap (λ (a : About). forward_reply a (entries w.seen) c.args.conn c.args.frame.message (one_looks c.in-Ok.said)) about
     ∙ ap (λ (F : List Entry). forward_reply (about_of h) F c.args.conn c.args.frame.message (one_looks c.in-Ok.said)) (sym found)
@@ -65,4 +67,6 @@ returns-in-Ok-clause-worn g c =
     let w = guard_view c.enter-guard.result in
     let stands : DeskStands c.state.result.now w.seen = subst (λ d. DeskStands d w.seen) (sym c.state.ensures.value) e.stands in
     let about : c.state.result.now.about ≡ about_of h = ap (λ (d : Desk). d.about) c.state.ensures.value ∙ e.about ∙ h.fixed in
-    worn_found _ _ _ w.seen _ about (found_with c.commit_one-at.new.pass w (one_stamped c.number-caller.result c.args.conn c.of-note.result.value.message c.in-Ok.said) c.commit_one-at.result c.commit_one-at.ensures.2 c.commit_one-at.ensures.0) (c.in-Ok.ensures.worn w.seen stands)
+    worn_found _ _ _ w.seen _ about (found_with c.commit_one-at.new.pass w
+    (one_stamped c.number-caller.result c.args.conn c.of-note.result.value.message c.in-Ok.said) c.commit_one-at.result c.commit_one-at.ensures.2 c.commit_one-at.ensures.0)
+    (c.in-Ok.ensures.worn w.seen stands)

@@ -47,7 +47,10 @@ returns-clause-pass g c =
     let q = c.commit_leave-at.new.pass in
     let k = c.commit_leave-at.ensures in
     let gone = c.leave-said.result in
-    let made = passed_with h p q w (leave_stamped c.number-caller.result c.args.conn c.empties-empties.result gone) c.commit_leave-at.result c.leave-said.new.self c.requires.caller (subst (λ t. IsPassOf fixed_of t q) e.guard.0 k.1) k.2 k.0 e.same e.seen (subst (λ n. DeskStands c.leave-said.new.self (w.seen ++ leave_stamped c.number-caller.result c.args.conn n gone ∷ [])) (sym c.empties-empties.ensures) (c.leave-said.ensures.stands w.seen stands)) (c.leave-said.ensures.about ∙ about) in
+    let made = passed_with h p q w (leave_stamped c.number-caller.result c.args.conn c.empties-empties.result gone) c.commit_leave-at.result c.leave-said.new.self c.requires.caller
+    (subst (λ t. IsPassOf fixed_of t q) e.guard.0 k.1) k.2 k.0 e.same e.seen
+    (subst (λ n. DeskStands c.leave-said.new.self (w.seen ++ leave_stamped c.number-caller.result c.args.conn n gone ∷ [])) (sym c.empties-empties.ensures)
+    (c.leave-said.ensures.stands w.seen stands)) (c.leave-said.ensures.about ∙ about) in
     subst (λ n. Passed h p [] (placed c.commit_leave-at.result (leave_stamped n c.args.conn (empties_of c.args.outlet) gone)) q) c.number-caller.ensures (
     subst (λ n. Passed h p [] (placed c.commit_leave-at.result (leave_stamped c.number-caller.result c.args.conn n gone)) q) c.empties-empties.ensures made
     )
@@ -72,7 +75,9 @@ returns-clause-given g c =
     let stands : DeskStands c.state.result.now w.seen = subst (λ d. DeskStands d w.seen) (sym c.state.ensures.value) e.stands in
     let about : c.state.result.now.about ≡ about_of h = ap (λ (d : Desk). d.about) c.state.ensures.value ∙ e.about ∙ h.fixed in
     let gone = c.leave-said.result in
-    let after : sent (about_of h) (entries (seen c.commit_leave-at.new.pass)) c.args.conn ≡ sent (about_of h) (entries w.seen) c.args.conn = ap (λ (v : View). sent (about_of h) (entries v.seen) c.args.conn) c.commit_leave-at.ensures.2 ∙ sent_left (about_of h) w.seen c.number-caller.result c.args.conn c.empties-empties.result gone c.args.conn in
+    let after : sent (about_of h) (entries (seen c.commit_leave-at.new.pass)) c.args.conn ≡ sent (about_of h) (entries w.seen) c.args.conn =
+    ap (λ (v : View). sent (about_of h) (entries v.seen) c.args.conn) c.commit_leave-at.ensures.2
+    ∙ sent_left (about_of h) w.seen c.number-caller.result c.args.conn c.empties-empties.result gone c.args.conn in
     c.leave-said.ensures.given w.seen stands ∙ ap (λ (a : About). take gone.taken (sent a (entries w.seen) c.args.conn)) about ∙ ap (take gone.taken) (sym after)
 
 pub returns-clause-all : goal.returns-clause-all
@@ -83,5 +88,7 @@ returns-clause-all g c all =
     let stands : DeskStands c.state.result.now w.seen = subst (λ d. DeskStands d w.seen) (sym c.state.ensures.value) e.stands in
     let about : c.state.result.now.about ≡ about_of h = ap (λ (d : Desk). d.about) c.state.ensures.value ∙ e.about ∙ h.fixed in
     let gone = c.leave-said.result in
-    let after : sent (about_of h) (entries (seen c.commit_leave-at.new.pass)) c.args.conn ≡ sent (about_of h) (entries w.seen) c.args.conn = ap (λ (v : View). sent (about_of h) (entries v.seen) c.args.conn) c.commit_leave-at.ensures.2 ∙ sent_left (about_of h) w.seen c.number-caller.result c.args.conn c.empties-empties.result gone c.args.conn in
+    let after : sent (about_of h) (entries (seen c.commit_leave-at.new.pass)) c.args.conn ≡ sent (about_of h) (entries w.seen) c.args.conn =
+    ap (λ (v : View). sent (about_of h) (entries v.seen) c.args.conn) c.commit_leave-at.ensures.2
+    ∙ sent_left (about_of h) w.seen c.number-caller.result c.args.conn c.empties-empties.result gone c.args.conn in
     c.leave-said.ensures.all w.seen stands all ∙ ap (λ (a : About). sent a (entries w.seen) c.args.conn) about ∙ sym after

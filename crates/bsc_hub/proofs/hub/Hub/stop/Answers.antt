@@ -17,7 +17,8 @@ returns-in-Ok-clause-due g c =
     let e = c.enter-guard.ensures in
     let w = guard_view c.enter-guard.result in
     let stands : DeskStands c.state.result.now w.seen = subst (λ d. DeskStands d w.seen) (sym c.state.ensures.value) e.stands in
-    c.in-Ok.ensures.due w.seen stands ∙ ap counts (sym (found_with c.commit_stop-at.new.pass w (stop_stamped c.number-caller.result c.in-Ok.said) c.commit_stop-at.result c.commit_stop-at.ensures.2 c.commit_stop-at.ensures.0))
+    c.in-Ok.ensures.due w.seen stands ∙ ap counts (sym (found_with c.commit_stop-at.new.pass w
+    (stop_stamped c.number-caller.result c.in-Ok.said) c.commit_stop-at.result c.commit_stop-at.ensures.2 c.commit_stop-at.ensures.0))
 
 pub returns-in-Ok-clause-refused : goal.returns-in-Ok-clause-refused
 returns-in-Ok-clause-refused g c =
@@ -25,4 +26,5 @@ returns-in-Ok-clause-refused g c =
     let e = c.enter-guard.ensures in
     let w = guard_view c.enter-guard.result in
     let stands : DeskStands c.state.result.now w.seen = subst (λ d. DeskStands d w.seen) (sym c.state.ensures.value) e.stands in
-    stopped_found _ w.seen _ (found_with c.commit_stop-at.new.pass w (stop_stamped c.number-caller.result c.in-Ok.said) c.commit_stop-at.result c.commit_stop-at.ensures.2 c.commit_stop-at.ensures.0) (c.in-Ok.ensures.refused w.seen stands)
+    stopped_found _ w.seen _ (found_with c.commit_stop-at.new.pass w (stop_stamped c.number-caller.result c.in-Ok.said) c.commit_stop-at.result c.commit_stop-at.ensures.2 c.commit_stop-at.ensures.0)
+    (c.in-Ok.ensures.refused w.seen stands)

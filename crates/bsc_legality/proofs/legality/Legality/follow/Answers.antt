@@ -29,7 +29,8 @@ returns c =
     let l = c.args.self.now in
     let e = c.args.entry.now in
     let stays = λ (rows : List Row). filter (λ (r : Row). not (leaves r.connection.number e)) rows in
-    let rows : c.push_new.new.rows.items ≡ rows_after e l.rows.items = c.push_new.ensures.items ∙ ap (λ (xs : List Row). xs ++ map new_row (option_to_list (connection_of e))) (c.drop_left.ensures.items ∙ ap stays c.follow_all.ensures.items) in
+    let rows : c.push_new.new.rows.items ≡ rows_after e l.rows.items = c.push_new.ensures.items
+    ∙ ap (λ (xs : List Row). xs ++ map new_row (option_to_list (connection_of e))) (c.drop_left.ensures.items ∙ ap stays c.follow_all.ensures.items) in
     let stop : c.if-self.self ≡ (l.stopped || stops e) = elim c.if-self.branch [
       | then-self w ↦ w.self-is ∙ w.if-self.true ∙ sym (ap (λ (b : Bool). b || stops e) w.if-self.true)
       | else-self w ↦ w.self-is ∙ w.is_stop-self.ensures ∙ sym (ap (λ (b : Bool). b || stops e) w.if-self.false)
@@ -47,7 +48,8 @@ invariant_of-self-clause-few_frames c =
     let l = c.args.self.now in
     let e = c.args.entry.now in
     let stays = λ (rows : List Row). filter (λ (r : Row). not (leaves r.connection.number e)) rows in
-    let rows : c.push_new.new.rows.items ≡ rows_after e l.rows.items = c.push_new.ensures.items ∙ ap (λ (xs : List Row). xs ++ map new_row (option_to_list (connection_of e))) (c.drop_left.ensures.items ∙ ap stays c.follow_all.ensures.items) in
+    let rows : c.push_new.new.rows.items ≡ rows_after e l.rows.items = c.push_new.ensures.items
+    ∙ ap (λ (xs : List Row). xs ++ map new_row (option_to_list (connection_of e))) (c.drop_left.ensures.items ∙ ap stays c.follow_all.ensures.items) in
     subst (λ (xs : List Row). list_all (λ r. nat_le r.entered (l.entries + 1)) xs ≡ true) (sym rows) (entered_within l.entries e l.rows.items l.few_frames)
 
 pub invariant_of-self-clause-bounded : goal.invariant_of-self-clause-bounded

@@ -6,7 +6,8 @@ use Rattle.bsc_policy.proofs.directory.Directory.make.Goals as goal
 pub loop-member-preserved : goal.loop-member-preserved
 loop-member-preserved c =
     let are = c.classes-classes.ensures ∙ ap (λ (g : List ℕ). classes_of c.args.names.now g) c.as_slice.ensures in
-    filed_more c.args.members.now c.loop-member.member-index c.member-item.result c.args.names.now c.loop-member.filed c.file.new.filed c.classes-classes.result c.loop-member-test.true c.member-item.is
+    filed_more c.args.members.now c.loop-member.member-index c.member-item.result c.args.names.now c.loop-member.filed c.file.new.filed c.classes-classes.result c.loop-member-test.true
+    c.member-item.is
     are c.in_ok-file.ensures c.loop-member.invariant
 
 pub returns : goal.returns

@@ -45,7 +45,12 @@ returns-clause-fed c =
     let kept : self.carry.items ++ rest ≡ c.replace-piece.result.items = grind arith in
     let none : c.replace-piece.new.dest.items ≡ [] = grind arith in
     let all : c.replace-piece.result.items ≡ c.extend_from_slice.new.self.items = grind arith in
-    let some : 0 < length c.replace-piece.result.items = omega (arith, ap length all, eqb-false (vec_len c.extend_from_slice.new.self) 0 (sym c.is_empty.ensures ∙ c.if-is_empty.false), c.extend_from_slice.new.self.ok.0) in
+    let some : 0 < length c.replace-piece.result.items = omega (
+      arith,
+      ap length all,
+      eqb-false (vec_len c.extend_from_slice.new.self) 0 (sym c.is_empty.ensures ∙ c.if-is_empty.false),
+      c.extend_from_slice.new.self.ok.0,
+    ) in
     let over : self.ended ≡ true = grind arith in
     fed-last self c.give.new.self c.give.result c.replace-piece.result.items
     (c.replace-piece.new.dest.items ++ drop self.end (take self.end self.chunk.items))

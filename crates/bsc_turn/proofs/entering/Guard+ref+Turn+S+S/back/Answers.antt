@@ -9,5 +9,6 @@ pub returns-clause-pass : goal.returns-clause-pass
 returns-clause-pass g c =
     let e : c.put_in.new.seat.me.0 ≡ in_phase Outside c.args.self.seat.me.0 = search rules in (
       search rules,
-      sound_outside c.args.pass.now.number (g.S.Stands.about (first_state c.args.self.turn.now)) c.args.self.turn.now.callers c.into_badge.result.views c.args.self.seat.me.0 c.put_in.new.seat.me.0 (search rules) e (search rules) (search rules) (search rules) (search rules) c.requires.guard.2,
+      sound_outside c.args.pass.now.number (g.S.Stands.about (first_state c.args.self.turn.now)) c.args.self.turn.now.callers c.into_badge.result.views c.args.self.seat.me.0 c.put_in.new.seat.me.0
+          (search rules) e (search rules) (search rules) (search rules) (search rules) c.requires.guard.2,
     )

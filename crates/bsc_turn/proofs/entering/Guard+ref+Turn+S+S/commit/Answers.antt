@@ -10,5 +10,6 @@ returns-clause-pass g c =
     let v = c.make_entry-place.new.seat.me.0 in
     let e : c.put_in.new.seat.me.0 ≡ in_phase Outside v = search rules in (
       search rules,
-      sound_outside c.args.pass.now.number (g.S.Stands.about (first_state c.args.self.turn.now)) c.args.self.turn.now.callers c.into_badge.result.views v c.put_in.new.seat.me.0 (search rules) e (search rules) (search rules) (search rules) (search rules) c.make_entry-place.ensures.consistent,
+      sound_outside c.args.pass.now.number (g.S.Stands.about (first_state c.args.self.turn.now)) c.args.self.turn.now.callers c.into_badge.result.views v c.put_in.new.seat.me.0
+          (search rules) e (search rules) (search rules) (search rules) (search rules) c.make_entry-place.ensures.consistent,
     )

@@ -12,8 +12,14 @@ returns-clause-pass g c =
     let w = view_of c.args.other in
     let s = c.requires.pass.1.1 in
     let t : IsConsistent (after_join v w) = joined_consistent v w c.into_seat-seat.result.me.0 c.into_seat.result.me.0 (search rules) (search rules) c.join_seats.ensures.consistent in
-    let e : c.join_seats.new.seat.me.0 ≡ after_join v w = search rules in
-    ((search rules, sound_as c.args.pass.now.number (g.S.Stands.about (first_state c.args.self.now)) c.args.self.now.callers c.into_badge.result.views c.join_seats.new.seat.me.0 (after_join v w) (search rules) e (s.0, s.1, s.2, s.3, s.4, t)), search rules)
+    let e : c.join_seats.new.seat.me.0 ≡ after_join v w = search rules in (
+      (
+        search rules,
+        sound_as c.args.pass.now.number (g.S.Stands.about (first_state c.args.self.now)) c.args.self.now.callers c.into_badge.result.views c.join_seats.new.seat.me.0
+            (after_join v w) (search rules) e (s.0, s.1, s.2, s.3, s.4, t),
+      ),
+      search rules,
+    )
 
 pub returns-clause-seen : goal.returns-clause-seen
 returns-clause-seen g c =
