@@ -1,4 +1,5 @@
 -- What stands for a key that is missing.
+-- It serves the clauses of `given`.
 use Rattle.std.proofs.Common.{◌≡◌, ℕ, Option, Some, None, option_map, refl}
 use Rattle.bsc_settings.specs.Values.{number, otherwise}
 use Rattle.bsc_settings.specs.Rows.{default_of}

@@ -1,4 +1,5 @@
 -- Rows that are read in parts.
+-- It serves the clauses of `read_node`.
 use Rattle.std.proofs.Common.{◌≡◌, ◌∙◌, ◌++◌, ℕ, Bool, true, false, List, [], ◌∷◌, codes, Option, Some, None, Result, Ok, Err, IfErr, is_some, if◌then◌else◌, refl, sym, subst, ap}
 use Rattle.std.specs.Result.{IsErrAnd}
 use Rattle.toml.specs.Data.{Members, get_member}
@@ -9,7 +10,7 @@ use Rattle.bsc_settings.specs.Table.{Row, node_table, least_reconnect_row}
 use Rattle.bsc_settings.specs.Values.{value_at}
 use Rattle.bsc_settings.specs.Documents.{amount, node_rows_of}
 use Rattle.bsc_settings.specs.Faults.{first_at_fault, NamesFirst, ◌before◌}
-use Rattle.bsc_settings.specs.Steps.{peer_rows, size_rows, bound_rows}
+use Rattle.bsc_settings.specs.Fields.{peer_rows, size_rows, bound_rows}
 
 step : (b : Bool) (key : KeyName) (x y z : Option KeyName) → z ≡ (x before y) →
     (if b then z else Some key) ≡ ((if b then x else Some key) before y)

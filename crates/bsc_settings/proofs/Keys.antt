@@ -1,4 +1,5 @@
 -- The keys of a map, beside those of the table that it stands for.
+-- It serves clauses of functions of `known_policy` and `known`.
 use Rattle.std.proofs.Common.{◌≡◌, ℕ, Bool, ◌&&◌, List, [], ◌∷◌, String, Global, string_bytes, refl, ap}
 use Rattle.std.specs.List.{list_all}
 use Rattle.std.specs.Map.{keys_of as map_keys}

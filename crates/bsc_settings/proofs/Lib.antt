@@ -1,5 +1,6 @@
 pub mod Keys
 pub mod Lists
+pub mod Sayings
 pub mod Refused
 pub mod Texts
 pub mod Joined

@@ -1,5 +1,8 @@
 -- Lists of a policy that are read value by value.
-use Rattle.std.proofs.Common.{◌≡◌, ◌∙◌, ◌+◌, ◌≤◌, ◌<◌, ◌++◌, ◌&&◌, ◌||◌, ℕ, Bool, true, false, not, cond, nat_le, nat_lt, suc, List, [], ◌∷◌, length, get_or, drop, map, Option, Some, None, is_some, option_and_then, position, Result, Ok, Err, ◌≢◌, ◌↔◌, refl, sym, subst, ap, ap₂, append_assoc, append-nil, length-append, le-leb, leb-true, lt-ltb, arith, inl, inr}
+-- It serves clauses of functions of `known_policy`, `listing` and `policy_table`.
+use Rattle.std.proofs.Common.{◌≡◌, ◌∙◌, ◌+◌, ◌≤◌, ◌<◌, ◌++◌, ◌&&◌, ◌||◌, ℕ, Bool, true, false, not, cond, nat_le, nat_lt, suc, List, [], ◌∷◌, length, get_or, drop, map, Option}
+use Rattle.std.proofs.Common.{Some, None, is_some, option_and_then, position, Result, Ok, Err, ◌≢◌, ◌↔◌, refl, sym, subst, ap, ap₂, append_assoc, append-nil, length-append, le-leb}
+use Rattle.std.proofs.Common.{leb-true, lt-ltb, arith, inl, inr}
 use Rattle.std.specs.List.{list_all, list_any, position_or_len}
 use Rattle.std.specs.Cmp.Lexicographic.{nat_list_eq_equiv}
 use Rattle.std.proofs.lemmas.Bool.{and_parts, cases_Bool, false≢true}

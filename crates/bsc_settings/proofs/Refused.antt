@@ -1,5 +1,7 @@
 -- Why a policy is refused: the first entry at fault of a list that is read value by value.
-use Rattle.std.proofs.Common.{◌≡◌, ◌∙◌, ◌+◌, ◌≤◌, ◌<◌, ◌++◌, ◌&&◌, ℕ, Bool, true, false, cond, nat_le, suc, min, List, [], ◌∷◌, length, get_or, take, drop, map, position, codes, Option, Some, None, is_some, option_and_then, Result, Ok, Err, IfErr, inl, inr, refl, sym, subst, ap, length-append, le-leb, leb-true, arith}
+-- It serves clauses of functions of `policy_table`.
+use Rattle.std.proofs.Common.{◌≡◌, ◌∙◌, ◌+◌, ◌≤◌, ◌<◌, ◌++◌, ◌&&◌, ℕ, Bool, true, false, cond, nat_le, suc, min, List, [], ◌∷◌, length, get_or, take, drop, map, position, codes}
+use Rattle.std.proofs.Common.{Option, Some, None, is_some, option_and_then, Result, Ok, Err, IfErr, inl, inr, refl, sym, subst, ap, length-append, le-leb, leb-true, arith}
 use Rattle.std.proofs.lemmas.Bool.{and_parts, cases_Bool}
 use Rattle.std.proofs.lemmas.Bool.Decides.{nat_tests}
 use Rattle.std.proofs.lemmas.Option.{none-some, same_Some as some-is}

@@ -1,4 +1,5 @@
 -- The value of a row that takes the text of a device, and texts that may be missing.
+-- It serves the clauses of `join_parts` and `read_uuid`.
 use Rattle.std.proofs.Common.{◌≡◌, ◌∙◌, ℕ, List, Option, Some, None, IfSome, is_some, option_map, option_and_then, refl, sym, subst, ap}
 use Rattle.std.specs.Borrow.{Bor}
 use Rattle.toml.specs.Data.{Data, Members, as_str, get_member}

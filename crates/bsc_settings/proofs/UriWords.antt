@@ -1,4 +1,5 @@
 -- Whether the rest of a text goes on with URIs.
+-- It serves the clauses of `are_uris`.
 use Rattle.std.proofs.Common.{ℕ, Bool, true, false, ◌&&◌, List, [], ◌∷◌}
 use Rattle.std.specs.List.{list_all}
 use Rattle.bsc_settings.specs.Uris.{is_uri, is_uri_octet, cut_at_spaces}

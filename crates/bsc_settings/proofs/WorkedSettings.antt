@@ -1,14 +1,14 @@
 -- Rows, faults and names, worked by hand.
+-- No clause needs it: worked examples.
 use Rattle.std.proofs.Common.{◌≡◌, ◌+◌, ◌++◌, codes, pos, negsuc, true, false, map, [], ◌∷◌, Some, None, refl}
 use Rattle.hex.specs.Hex.{decode_pairs}
 use Rattle.toml.specs.Data.{member, no_members, table, string, integer}
 use Rattle.bsc_history.specs.declared.limits.TheConstants.{MOST_ROWS}
 use Rattle.bsc_settings.specs.declared.key.KeyName.TheVariants.{HubVmac, HubUuid, NodeVmac, Unknown}
-use Rattle.bsc_settings.specs.Table.{hub_table, vmac_row, port_row, rows_row, turns_row, node_table, failover_row, direct_port_row, direct_uris_row, greatest_reconnect_row}
+use Rattle.bsc_settings.specs.Table.{name_of, hub_table, vmac_row, port_row, rows_row, turns_row, node_table, failover_row, direct_port_row, direct_uris_row, greatest_reconnect_row}
 use Rattle.bsc_settings.specs.Uris.{cut_at_spaces}
 use Rattle.bsc_settings.specs.Values.{number, vmac, text as text_value, missing as no_value, value_at}
 use Rattle.bsc_settings.specs.Faults.{fault_of, has_small_product}
-use Rattle.bsc_settings.specs.Names.{name_of}
 
 -- each key of the table is called by its table and its word
 named : map (λ r. name_of r.key) hub_table ≡ map (λ r. codes "hub." ++ r.word) hub_table

@@ -1,10 +1,10 @@
 -- What a document is, and the tables and keys that it has.
-use Rattle.std.specs.Prelude.{◌≡◌, ℕ, Bool, true, false, ◌&&◌, ◌||◌, List, [], ◌∷◌, codes, IsUtf8, Option, Some, None, option_and_then, is_some}
+use Rattle.std.specs.Prelude.{◌≡◌, ℕ, Bool, true, false, ◌&&◌, ◌||◌, List, [], ◌∷◌, codes, IsUtf8, Option, Some, None, option_and_then, is_some, if◌then◌else◌}
 use Rattle.std.specs.List.{list_all}
 use Rattle.toml.specs.Data.{Data, Items, Members, no_members, member, as_array, as_table, get_member}
 use Rattle.toml.specs.Parse.{parse_document}
 use Rattle.bsc_text.specs.Lines.{same_octets}
-use Rattle.bsc_settings.specs.Table.{Row, hub_table, node_table, least_reconnect_row, member_table, rule_table}
+use Rattle.bsc_settings.specs.Table.{Row, numbers_of, hub_table, node_table, least_reconnect_row, member_table, rule_table}
 use Rattle.bsc_settings.specs.Values.{Value, number, value_at}
 use Rattle.bsc_settings.specs.Policies.{listed}
 
@@ -33,6 +33,11 @@ keys_of (member key value rest) = key ∷ keys_of rest
 abbrev pub has_key : List Row → List ℕ → Bool
 has_key [] word = false
 has_key (r ∷ rows) word = same_octets word r.word || has_key rows word
+
+-- the least and the greatest number that the row with this word takes, where it takes a number
+abbrev pub range_in : List Row → List ℕ → Option (ℕ × ℕ)
+range_in [] word = None
+range_in (r ∷ rows) word = if same_octets word r.word then numbers_of r.kind else range_in rows word
 
 -- whether each key of a table has a row
 abbrev pub has_keys_of : List Row → Members → Bool

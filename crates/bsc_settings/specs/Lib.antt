@@ -12,3 +12,4 @@ pub mod Rows
 pub mod Steps
 pub mod Lists
 pub mod Refusals
+pub mod Listed

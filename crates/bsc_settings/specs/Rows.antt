@@ -1,7 +1,7 @@
 -- The rows of the code as rows of the table of keys.
 use Rattle.std.specs.Prelude.{ℕ, Bool, Option, Some, None}
-use Rattle.bsc_settings.specs.declared.rows.NumberRow.{NumberRow}
-use Rattle.bsc_settings.specs.declared.rows.TextRow.{TextRow}
+use Rattle.bsc_settings.specs.declared.key.NumberRow.{NumberRow}
+use Rattle.bsc_settings.specs.declared.key.TextRow.{TextRow}
 use Rattle.bsc_settings.specs.Table.{Kind, integer, Default, required, absent, or_else, uris_kind, uris_default, Row, row}
 
 -- a number of the code that stands for a missing key, if there is one

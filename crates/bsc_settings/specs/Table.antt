@@ -1,5 +1,5 @@
 -- The tables of keys: what each takes, and what stands for one that is missing.
-use Rattle.std.specs.Prelude.{ℕ, ◌≤◌, Bool, true, false, not, ◌||◌, List, [], ◌∷◌, codes, IsTrue}
+use Rattle.std.specs.Prelude.{ℕ, ◌≤◌, Bool, true, false, not, ◌||◌, List, [], ◌∷◌, codes, IsTrue, Option, Some, None}
 use Rattle.bsc_octets.specs.declared.vmac.Vmac.{Vmac}
 use Rattle.bsc_octets.specs.Addresses.{same_vmac, zero_vmac, broadcast}
 use Rattle.bsc_octets.specs.declared.bounds.TheConstants.{LEAST_BVLC}
@@ -11,7 +11,8 @@ use Rattle.bsc_settings.specs.declared.key.KeyName.TheVariants.{HubConnectWaitMs
 use Rattle.bsc_settings.specs.declared.key.KeyName.TheVariants.{NodeVmac, NodeUuid, NodePrimary, NodeFailover, NodeDirectPort}
 use Rattle.bsc_settings.specs.declared.key.KeyName.TheVariants.{NodeDirectUris, NodeMaxBvlc, NodeMaxNpdu, NodeConnectWaitMs}
 use Rattle.bsc_settings.specs.declared.key.KeyName.TheVariants.{NodeDisconnectWaitMs, NodeHeartbeatMs, NodeLeastReconnectMs}
-use Rattle.bsc_settings.specs.declared.key.KeyName.TheVariants.{NodeGreatestReconnectMs, NodeTurns, PolicyMember, PolicyRule}
+use Rattle.bsc_settings.specs.declared.key.KeyName.TheVariants.{NodeGreatestReconnectMs, NodeTurns, PolicyMember, PolicyRule, HubProduct}
+use Rattle.bsc_settings.specs.declared.key.KeyName.TheVariants.{Unknown}
 
 -- What a key takes: the text of an address that names one node, the text of a device UUID, the text of the URI of a hub,
 -- the text of URIs with one space between two, the name of a group, a group or `*`, `allow` or `deny`, an integer from the
@@ -175,6 +176,38 @@ abbrev pub rule_table : List Row
 rule_table =
     rule_do_row ∷ rule_from_row ∷ rule_to_row ∷ []
 
+-- What each key is called in a fault line.
+abbrev pub name_of : KeyName → List ℕ
+name_of HubVmac = codes "hub.vmac"
+name_of HubUuid = codes "hub.uuid"
+name_of HubPort = codes "hub.port"
+name_of HubMaxBvlc = codes "hub.max_bvlc"
+name_of HubMaxNpdu = codes "hub.max_npdu"
+name_of HubRows = codes "hub.rows"
+name_of HubOutbox = codes "hub.outbox"
+name_of HubConnectWaitMs = codes "hub.connect_wait_ms"
+name_of HubDisconnectWaitMs = codes "hub.disconnect_wait_ms"
+name_of HubHeartbeatMs = codes "hub.heartbeat_ms"
+name_of HubTurns = codes "hub.turns"
+name_of NodeVmac = codes "node.vmac"
+name_of NodeUuid = codes "node.uuid"
+name_of NodePrimary = codes "node.primary"
+name_of NodeFailover = codes "node.failover"
+name_of NodeDirectPort = codes "node.direct_port"
+name_of NodeDirectUris = codes "node.direct_uris"
+name_of NodeMaxBvlc = codes "node.max_bvlc"
+name_of NodeMaxNpdu = codes "node.max_npdu"
+name_of NodeConnectWaitMs = codes "node.connect_wait_ms"
+name_of NodeDisconnectWaitMs = codes "node.disconnect_wait_ms"
+name_of NodeHeartbeatMs = codes "node.heartbeat_ms"
+name_of NodeLeastReconnectMs = codes "node.least_reconnect_ms"
+name_of NodeGreatestReconnectMs = codes "node.greatest_reconnect_ms"
+name_of NodeTurns = codes "node.turns"
+name_of PolicyMember = codes "policy.member"
+name_of PolicyRule = codes "policy.rule"
+name_of HubProduct = codes "hub.product"
+name_of Unknown = codes "unknown"
+
 -- Whether an address names one node: it is neither zero nor the broadcast address.
 abbrev pub is_node_address : Vmac → Bool
 is_node_address v = not (same_vmac v zero_vmac || same_vmac v broadcast)
@@ -190,3 +223,8 @@ IsWithin kind n = ⊥
 -- A number is one that the row takes.
 abbrev pub RowTakes : Row → ℕ → Type 0
 RowTakes r n = IsWithin r.kind n
+
+-- the numbers that a kind takes, the least and the greatest
+abbrev pub numbers_of : Kind → Option (ℕ × ℕ)
+numbers_of (integer least greatest) = Some (least, greatest)
+numbers_of kind = None

@@ -8,16 +8,9 @@ ghost use Rattle.bsc_settings.specs.Table.{hub_table, node_table};
 ghost use Rattle.bsc_settings.specs.Documents.{has_key, hub_of, node_of, policy_of, node_rows_of, is_known, is_known_policy, has_known_alone};
 ghost use Rattle.bsc_text.specs.Lines.{same_octets};
 
+use crate::hub_table::is_hub_key;
 use crate::known_policy::has_policy_keys;
-use crate::node_rows::{
-    DIRECT_PORT, DIRECT_URIS, FAILOVER, GREATEST_RECONNECT_MS, LEAST_RECONNECT_MS,
-    NODE_CONNECT_WAIT_MS, NODE_DISCONNECT_WAIT_MS, NODE_HEARTBEAT_MS, NODE_MAX_BVLC, NODE_MAX_NPDU,
-    NODE_TURNS, NODE_UUID, NODE_VMAC, PRIMARY,
-};
-use crate::rows::{
-    CONNECT_WAIT_MS, DISCONNECT_WAIT_MS, HEARTBEAT_MS, MAX_BVLC, MAX_NPDU, OUTBOX, PORT, ROWS,
-    TURNS, UUID, VMAC,
-};
+use crate::node_table::is_node_key;
 use toml::Table;
 
 /// What a document calls the table of a hub.
@@ -57,43 +50,6 @@ pub(crate) fn policy_of(doc: &Table) -> Option<&Table>
         Some(value) => value.as_table(),
         None => None,
     }
-}
-
-/// Whether a word is a key of the table `hub`.
-fn is_hub_key(word: &str) -> bool
-    ensures { result ≡ has_key hub_table word.now }
-{
-    word == VMAC.word
-        || word == UUID.word
-        || word == PORT.word
-        || word == MAX_BVLC.word
-        || word == MAX_NPDU.word
-        || word == ROWS.word
-        || word == OUTBOX.word
-        || word == CONNECT_WAIT_MS.word
-        || word == DISCONNECT_WAIT_MS.word
-        || word == HEARTBEAT_MS.word
-        || word == TURNS.word
-}
-
-/// Whether a word is a key of the table `node`; its words are the same for every node.
-fn is_node_key(word: &str) -> bool
-    ensures { result ≡ has_key (node_table true 0) word.now }
-{
-    word == NODE_VMAC.word
-        || word == NODE_UUID.word
-        || word == PRIMARY.word
-        || word == FAILOVER.word
-        || word == DIRECT_PORT.word
-        || word == DIRECT_URIS.word
-        || word == NODE_MAX_BVLC.word
-        || word == NODE_MAX_NPDU.word
-        || word == NODE_CONNECT_WAIT_MS.word
-        || word == NODE_DISCONNECT_WAIT_MS.word
-        || word == NODE_HEARTBEAT_MS.word
-        || word == LEAST_RECONNECT_MS.word
-        || word == GREATEST_RECONNECT_MS.word
-        || word == NODE_TURNS.word
 }
 
 /// Whether all keys of a table are keys of the table `hub`.

@@ -1,26 +1,23 @@
-//! The settings of a node, read from the table `node` of a document.
-ghost use Rattle.std.specs.Prelude.{◌≡◌, ◌++◌, None, Some, IfOk, IfErr, IfSome, codes, is_some, option_map};
+//! The settings of a node, read from the table `node` of a document, and the keys of that table.
+ghost use Rattle.std.specs.Prelude.{◌≡◌, ◌++◌, ◌||◌, true, None, Some, IfOk, IfErr, IfSome, codes, is_some, option_map};
 ghost use Rattle.std.specs.Str.{IsUtf8};
 ghost use Rattle.toml.specs.Data.{get_member};
 ghost use Rattle.toml.specs.View.{table_view};
-ghost use Rattle.bsc_settings.specs.Table.{greatest_reconnect_row, least_reconnect_row, RowTakes};
+ghost use Rattle.bsc_settings.specs.Table.{greatest_reconnect_row, least_reconnect_row, node_table, RowTakes};
 ghost use Rattle.bsc_settings.specs.Rows.{number_row};
 ghost use Rattle.bsc_settings.specs.Values.{value_at};
-ghost use Rattle.bsc_settings.specs.Documents.{amount, node_rows_of};
+ghost use Rattle.bsc_settings.specs.Documents.{amount, has_key, node_rows_of, range_in};
 ghost use Rattle.bsc_settings.specs.Faults.{first_at_fault, NamesFirst};
 ghost use Rattle.bsc_settings.specs.Fields.{node_fields_of, values_of};
-ghost use Rattle.bsc_settings.specs.Steps.{peer_rows, size_rows, bound_rows, peer_fields, size_fields, bound_fields};
+ghost use Rattle.bsc_settings.specs.Fields.{peer_rows, size_rows, bound_rows, peer_fields, size_fields, bound_fields};
 
 use crate::fault::SettingFault;
-use crate::key::KeyName;
-use crate::node::NodeSettings;
-use crate::node_parts::{NodeBounds, NodePeers, NodeSizes};
-use crate::node_rows::{
-    DIRECT_PORT, DIRECT_URIS, FAILOVER, GREATEST_RECONNECT_MS, LEAST_RECONNECT_MS,
+use crate::key::{
+    DIRECT_PORT, DIRECT_URIS, FAILOVER, GREATEST_RECONNECT_MS, KeyName, LEAST_RECONNECT_MS,
     NODE_CONNECT_WAIT_MS, NODE_DISCONNECT_WAIT_MS, NODE_HEARTBEAT_MS, NODE_MAX_BVLC, NODE_MAX_NPDU,
-    NODE_TURNS, NODE_UUID, NODE_VMAC, PRIMARY,
+    NODE_TURNS, NODE_UUID, NODE_VMAC, NumberRow, PRIMARY,
 };
-use crate::rows::NumberRow;
+use crate::node::{NodeBounds, NodePeers, NodeSettings, NodeSizes};
 use crate::values::{
     read_address, read_hub_uri, read_number, read_optional_port, read_optional_uri, read_uris,
     read_uuid, stands,
@@ -165,4 +162,70 @@ pub(crate) fn read_node(alloc: Global, table: &Table) -> Result<NodeSettings, Se
     let bounds = read_bounds(table, sizes.least_reconnect_ms)?;
     let settings = join_parts(alloc, &peers, &sizes, &bounds)?;
     Ok(settings)
+}
+
+/// Whether a word is a key of the table `node`; its words are the same for every node.
+pub fn is_node_key(word: &str) -> bool
+    ensures { result ≡ has_key (node_table true 0) word.now }
+{
+    word == NODE_VMAC.word
+        || word == NODE_UUID.word
+        || word == PRIMARY.word
+        || word == FAILOVER.word
+        || word == DIRECT_PORT.word
+        || word == DIRECT_URIS.word
+        || word == NODE_MAX_BVLC.word
+        || word == NODE_MAX_NPDU.word
+        || word == NODE_CONNECT_WAIT_MS.word
+        || word == NODE_DISCONNECT_WAIT_MS.word
+        || word == NODE_HEARTBEAT_MS.word
+        || word == LEAST_RECONNECT_MS.word
+        || word == GREATEST_RECONNECT_MS.word
+        || word == NODE_TURNS.word
+}
+
+/// The least and the greatest number that a key of the table `node` takes, where it takes a number, by the least wait.
+pub fn node_range(word: &str, least: u64) -> Option<(u64, u64)>
+    ensures { result ≡ range_in (node_table true least) word.now }
+{
+    if word == NODE_VMAC.word || word == NODE_UUID.word {
+        return None;
+    }
+    if word == PRIMARY.word || word == FAILOVER.word {
+        return None;
+    }
+    if word == DIRECT_PORT.word {
+        return Some((DIRECT_PORT.least, DIRECT_PORT.greatest));
+    }
+    if word == DIRECT_URIS.word {
+        return None;
+    }
+    if word == NODE_MAX_BVLC.word {
+        return Some((NODE_MAX_BVLC.least, NODE_MAX_BVLC.greatest));
+    }
+    if word == NODE_MAX_NPDU.word {
+        return Some((NODE_MAX_NPDU.least, NODE_MAX_NPDU.greatest));
+    }
+    if word == NODE_CONNECT_WAIT_MS.word {
+        return Some((NODE_CONNECT_WAIT_MS.least, NODE_CONNECT_WAIT_MS.greatest));
+    }
+    if word == NODE_DISCONNECT_WAIT_MS.word {
+        return Some((
+            NODE_DISCONNECT_WAIT_MS.least,
+            NODE_DISCONNECT_WAIT_MS.greatest,
+        ));
+    }
+    if word == NODE_HEARTBEAT_MS.word {
+        return Some((NODE_HEARTBEAT_MS.least, NODE_HEARTBEAT_MS.greatest));
+    }
+    if word == LEAST_RECONNECT_MS.word {
+        return Some((LEAST_RECONNECT_MS.least, LEAST_RECONNECT_MS.greatest));
+    }
+    if word == GREATEST_RECONNECT_MS.word {
+        return Some((least, GREATEST_RECONNECT_MS.greatest));
+    }
+    if word == NODE_TURNS.word {
+        return Some((NODE_TURNS.least, NODE_TURNS.greatest));
+    }
+    None
 }

@@ -1,7 +1,6 @@
 //! The rows of a member and of a rule, as the code has them. `specs/Table.antt` has their tables; that these are their rows
 //! is proved where they are read.
-use crate::key::KeyName;
-use crate::rows::TextRow;
+use crate::key::{KeyName, TextRow};
 
 pub(crate) const MEMBER_DEVICE: TextRow = TextRow {
     key: KeyName::PolicyMember,

@@ -88,7 +88,7 @@ fn read_rule<'a>(table: &'a Table) -> Result<RuleSaid<'a>, EntryFault>
 }
 
 /// What a value of the list says of a member, or what is wrong with it.
-fn member_said<'a>(value: &'a Value) -> Result<MemberSaid<'a>, EntryFault>
+pub(crate) fn member_said<'a>(value: &'a Value) -> Result<MemberSaid<'a>, EntryFault>
     ensures said { IfOk result (λ m. member_said (view value.now)
         ≡ Some (record { device = m.device; vmac = m.vmac; group = m.group.now })) }
     ensures fault { IfErr result (λ _. member_said (view value.now) ≡ None) }
@@ -103,7 +103,7 @@ fn member_said<'a>(value: &'a Value) -> Result<MemberSaid<'a>, EntryFault>
 }
 
 /// What a value of the list says of a rule, or what is wrong with it.
-fn rule_said<'a>(value: &'a Value) -> Result<RuleSaid<'a>, EntryFault>
+pub(crate) fn rule_said<'a>(value: &'a Value) -> Result<RuleSaid<'a>, EntryFault>
     ensures said { IfOk result (λ r. rule_said (view value.now)
         ≡ Some (record { allows = r.allows; from = r.from.now; to = r.to.now })) }
     ensures fault { IfErr result (λ _. rule_said (view value.now) ≡ None) }

@@ -8,8 +8,7 @@ ghost use Rattle.bsc_settings.specs.Uris.{IsHubUri, AreUris};
 ghost use Rattle.bsc_settings.specs.Values.{vmac, uuid, number, number_if, text, text_if, allows, natural, given, value_at};
 
 use crate::groups::{allows_of, is_group, is_group_or_all};
-use crate::key::KeyName;
-use crate::rows::{NumberRow, TextRow};
+use crate::key::{KeyName, NumberRow, TextRow};
 use crate::uris::{are_uris, is_hub_uri};
 use bsc_octets::{DeviceId, Vmac};
 use bsc_text::{read_device, read_vmac};

@@ -2,44 +2,17 @@
 ghost use Rattle.std.specs.Prelude.{◌≡◌};
 ghost use Rattle.bsc_settings_diagnostics.specs.Ranges.{range_of};
 
-use bsc_history::{MOST_OUTBOX, MOST_ROWS};
-use bsc_octets::LEAST_BVLC;
-use bsc_settings::{GREATEST_MS, KeyName, LEAST_MS, MOST_TURNS};
+use bsc_settings::{KeyName, hub_range, node_range};
 
-/// The least of the longest messages.
-const LEAST_MESSAGE: u64 = LEAST_BVLC as u64;
-
-/// The least and the greatest number that a key takes, where it takes a number; the greatest wait of a node is at least its
-/// least one, which is handed in.
-pub(crate) fn range_of(least: u64, key: KeyName) -> Option<(u64, u64)>
-    ensures { result ≡ range_of least key }
+/// The least and the greatest number that a key of the table `node` or of the table `hub` takes, where it takes a number; the
+/// greatest wait of a node is at least its least one, which is handed in.
+pub(crate) fn range_of(least: u64, is_node: bool, word: &str) -> Option<(u64, u64)>
+    ensures { result ≡ range_of least is_node word.now }
 {
-    match key {
-        KeyName::HubPort | KeyName::NodeDirectPort => Some((1, 65_535)),
-        KeyName::HubMaxBvlc | KeyName::NodeMaxBvlc => Some((LEAST_MESSAGE, 65_535)),
-        KeyName::HubMaxNpdu | KeyName::NodeMaxNpdu => Some((1, 65_535)),
-        KeyName::HubRows => Some((1, MOST_ROWS)),
-        KeyName::HubOutbox => Some((2, MOST_OUTBOX)),
-        KeyName::HubConnectWaitMs
-        | KeyName::HubDisconnectWaitMs
-        | KeyName::HubHeartbeatMs
-        | KeyName::NodeConnectWaitMs
-        | KeyName::NodeDisconnectWaitMs
-        | KeyName::NodeHeartbeatMs
-        | KeyName::NodeLeastReconnectMs => Some((LEAST_MS, GREATEST_MS)),
-        KeyName::NodeGreatestReconnectMs => Some((least, GREATEST_MS)),
-        KeyName::HubTurns | KeyName::NodeTurns => Some((1, MOST_TURNS)),
-        KeyName::HubVmac
-        | KeyName::HubUuid
-        | KeyName::NodeVmac
-        | KeyName::NodeUuid
-        | KeyName::NodePrimary
-        | KeyName::NodeFailover
-        | KeyName::NodeDirectUris
-        | KeyName::PolicyMember
-        | KeyName::PolicyRule
-        | KeyName::HubProduct
-        | KeyName::Unknown => None,
+    if is_node {
+        node_range(word, least)
+    } else {
+        hub_range(word)
     }
 }
 

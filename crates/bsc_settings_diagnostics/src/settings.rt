@@ -75,8 +75,14 @@ fn least_wait(doc: &Table) -> u64 {
 }
 
 /// What a key takes.
-fn kind_text(alloc: Global, doc: &Table, name: KeyName) -> Result<String, NoMemory> {
-    match range_of(least_wait(doc), name) {
+fn kind_text(
+    alloc: Global,
+    doc: &Table,
+    name: KeyName,
+    table: &str,
+    key: &str,
+) -> Result<String, NoMemory> {
+    match range_of(least_wait(doc), table == "node", key) {
         Some((least, greatest)) => Ok(format!(in alloc; "an integer from {least} to {greatest}")?),
         None => Ok(String::from_str(alloc, text_of(name))?),
     }
@@ -116,11 +122,11 @@ fn why_key(alloc: Global, doc: &Table, name: KeyName) -> Result<String, NoMemory
     if let Some(why) = why_beside(doc, name) {
         return Ok(format!(in alloc; "`{text}`: {why}")?);
     }
-    let kind = kind_text(alloc, doc, name)?;
     let (table, key) = match text.split_once('.') {
         Some(parts) => parts,
         None => (text, ""),
     };
+    let kind = kind_text(alloc, doc, name, table, key)?;
     match value_of(doc, table, key) {
         Some(value) => {
             let value = value_text(alloc, value)?;

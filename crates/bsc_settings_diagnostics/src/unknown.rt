@@ -1,48 +1,16 @@
 //! What a document has that settings don't have (docs/SETTINGS.md, "What is refused").
 use bsc_octets::NoMemory;
-use bsc_settings::KeyName;
+use bsc_settings::{is_hub_key, is_node_key};
 use std::alloc::Global;
 use toml::{Table, Value};
 
-/// The keys of the tables `hub` and `node`.
-const KEYS: [KeyName; 25] = [
-    KeyName::HubVmac,
-    KeyName::HubUuid,
-    KeyName::HubPort,
-    KeyName::HubMaxBvlc,
-    KeyName::HubMaxNpdu,
-    KeyName::HubRows,
-    KeyName::HubOutbox,
-    KeyName::HubConnectWaitMs,
-    KeyName::HubDisconnectWaitMs,
-    KeyName::HubHeartbeatMs,
-    KeyName::HubTurns,
-    KeyName::NodeVmac,
-    KeyName::NodeUuid,
-    KeyName::NodePrimary,
-    KeyName::NodeFailover,
-    KeyName::NodeDirectPort,
-    KeyName::NodeDirectUris,
-    KeyName::NodeMaxBvlc,
-    KeyName::NodeMaxNpdu,
-    KeyName::NodeConnectWaitMs,
-    KeyName::NodeDisconnectWaitMs,
-    KeyName::NodeHeartbeatMs,
-    KeyName::NodeLeastReconnectMs,
-    KeyName::NodeGreatestReconnectMs,
-    KeyName::NodeTurns,
-];
-
 /// Whether a key of a table is one that settings have.
 fn is_known(table: &str, key: &str) -> bool {
-    for name in &KEYS {
-        if let Some((its_table, its_key)) = name.text().split_once('.') {
-            if its_table == table && its_key == key {
-                return true;
-            }
-        }
+    if table == "node" {
+        is_node_key(key)
+    } else {
+        is_hub_key(key)
     }
-    false
 }
 
 /// The first key of the table `hub` or `node`, or that it is no table.

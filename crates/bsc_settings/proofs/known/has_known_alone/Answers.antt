@@ -21,4 +21,5 @@ returns-then-not-is_node_known c =
 pub returns : goal.returns
 returns c =
     let alone = c.has_tables_alone.ensures ∙ all_keys (λ key. same_octets key (codes "hub") || same_octets key (codes "node") || same_octets key (codes "policy")) c.args.doc.now.entries in
-    rw (← alone, ← c.is_hub_known.ensures, ← c.is_node_known.ensures, ← c.is_policy_known.ensures) (rw (c.if-not-has_tables_alone.false, c.if-not-is_hub_known.false, c.if-not-is_node_known.false) refl)
+    rw (← alone, ← c.is_hub_known.ensures, ← c.is_node_known.ensures, ← c.is_policy_known.ensures)
+    (rw (c.if-not-has_tables_alone.false, c.if-not-is_hub_known.false, c.if-not-is_node_known.false) refl)

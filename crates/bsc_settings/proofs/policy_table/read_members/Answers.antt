@@ -23,7 +23,8 @@ returns-in-Some-as_array-clause-taken c =
     let is : get_member (codes "member") (table_view c.args.table.now) ≡ Some (view c.in-Some.value.now) = sym (rw c.in-Some.is at found) in
     let list : as_array (view c.in-Some.value.now) ≡ Some (items_view c.in-Some-as_array.list.now.items) = sym (rw c.in-Some-as_array.is at c.as_array.ensures) in
     let same = list ∙ ap (λ (vs : List Value). Some (items_view vs)) (sym c.deref.ensures.value) in
-    let said = read-list member_said are_members members-kept refl c.args.policy.now.members.items c.requires c.deref.result.now (get_member (codes "member") (table_view c.args.table.now)) (view c.in-Some.value.now) is same in
+    let said = read-list member_said are_members members-kept refl c.args.policy.now.members.items c.requires c.deref.result.now (get_member (codes "member") (table_view c.args.table.now))
+    (view c.in-Some.value.now) is same in
     subst (λ o. OnOk c.take_members.result (o ≡ Some c.take_members.new.policy.members.items)) said c.take_members.ensures.taken
 
 pub returns-in-Some-as_array-clause-untaken : goal.returns-in-Some-as_array-clause-untaken
@@ -32,7 +33,8 @@ returns-in-Some-as_array-clause-untaken c =
     let is : get_member (codes "member") (table_view c.args.table.now) ≡ Some (view c.in-Some.value.now) = sym (rw c.in-Some.is at found) in
     let list : as_array (view c.in-Some.value.now) ≡ Some (items_view c.in-Some-as_array.list.now.items) = sym (rw c.in-Some-as_array.is at c.as_array.ensures) in
     let same = list ∙ ap (λ (vs : List Value). Some (items_view vs)) (sym c.deref.ensures.value) in
-    let said = read-list member_said are_members members-kept refl c.args.policy.now.members.items c.requires c.deref.result.now (get_member (codes "member") (table_view c.args.table.now)) (view c.in-Some.value.now) is same in
+    let said = read-list member_said are_members members-kept refl c.args.policy.now.members.items c.requires c.deref.result.now (get_member (codes "member") (table_view c.args.table.now))
+    (view c.in-Some.value.now) is same in
     subst (λ o. IfErr c.take_members.result (λ why. IsUnread why PolicyMember o)) said c.take_members.ensures.untaken
 
 pub returns-in-None-clause-untaken : goal.returns-in-None-clause-untaken
@@ -48,7 +50,8 @@ returns-in-Some-as_array-clause-why c =
     let is : get_member (codes "member") (table_view c.args.table.now) ≡ Some (view c.in-Some.value.now) = sym (rw c.in-Some.is at found) in
     let list : as_array (view c.in-Some.value.now) ≡ Some (items_view c.in-Some-as_array.list.now.items) = sym (rw c.in-Some-as_array.is at c.as_array.ensures) in
     let same = list ∙ ap (λ (vs : List Value). Some (items_view vs)) (sym c.deref.ensures.value) in
-    of-list IsOfMembers refused.MemberList c.deref.result.now (get_member (codes "member") (table_view c.args.table.now)) (view c.in-Some.value.now) is same c.take_members.result c.take_members.ensures.first
+    of-list IsOfMembers refused.MemberList c.deref.result.now (get_member (codes "member") (table_view c.args.table.now))
+    (view c.in-Some.value.now) is same c.take_members.result c.take_members.ensures.first
 
 pub returns-in-None-clause-why : goal.returns-in-None-clause-why
 returns-in-None-clause-why c =

@@ -23,7 +23,8 @@ returns-in-Some-as_array-clause-taken c =
     let is : get_member (codes "rule") (table_view c.args.table.now) ≡ Some (view c.in-Some.value.now) = sym (rw c.in-Some.is at found) in
     let list : as_array (view c.in-Some.value.now) ≡ Some (items_view c.in-Some-as_array.list.now.items) = sym (rw c.in-Some-as_array.is at c.as_array.ensures) in
     let same = list ∙ ap (λ (vs : List Value). Some (items_view vs)) (sym c.deref.ensures.value) in
-    let said = read-list rule_said are_rules rules-kept refl c.args.policy.now.rules.items c.requires c.deref.result.now (get_member (codes "rule") (table_view c.args.table.now)) (view c.in-Some.value.now) is same in
+    let said = read-list rule_said are_rules rules-kept refl c.args.policy.now.rules.items c.requires c.deref.result.now (get_member (codes "rule") (table_view c.args.table.now))
+    (view c.in-Some.value.now) is same in
     subst (λ o. OnOk c.take_rules.result (o ≡ Some c.take_rules.new.policy.rules.items)) said c.take_rules.ensures.taken
 
 pub returns-in-Some-as_array-clause-untaken : goal.returns-in-Some-as_array-clause-untaken
@@ -32,7 +33,8 @@ returns-in-Some-as_array-clause-untaken c =
     let is : get_member (codes "rule") (table_view c.args.table.now) ≡ Some (view c.in-Some.value.now) = sym (rw c.in-Some.is at found) in
     let list : as_array (view c.in-Some.value.now) ≡ Some (items_view c.in-Some-as_array.list.now.items) = sym (rw c.in-Some-as_array.is at c.as_array.ensures) in
     let same = list ∙ ap (λ (vs : List Value). Some (items_view vs)) (sym c.deref.ensures.value) in
-    let said = read-list rule_said are_rules rules-kept refl c.args.policy.now.rules.items c.requires c.deref.result.now (get_member (codes "rule") (table_view c.args.table.now)) (view c.in-Some.value.now) is same in
+    let said = read-list rule_said are_rules rules-kept refl c.args.policy.now.rules.items c.requires c.deref.result.now (get_member (codes "rule") (table_view c.args.table.now))
+    (view c.in-Some.value.now) is same in
     subst (λ o. IfErr c.take_rules.result (λ why. IsUnread why PolicyRule o)) said c.take_rules.ensures.untaken
 
 pub returns-in-None-clause-untaken : goal.returns-in-None-clause-untaken

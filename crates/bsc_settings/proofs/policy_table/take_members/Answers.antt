@@ -18,7 +18,8 @@ loop-value-init c = (
 
 pub loop-value-preserved : goal.loop-value-preserved
 loop-value-preserved c = (
-  taken-more member_said are_members c.args.policy.now.members.items c.loop-value.policy.members.items c.take_member.new.policy.members.items c.args.list.now c.loop-value.value-index c.value-item.result
+  taken-more member_said are_members c.args.policy.now.members.items c.loop-value.policy.members.items c.take_member.new.policy.members.items c.args.list.now c.loop-value.value-index
+      c.value-item.result
       c.loop-value-test.true c.value-item.is c.in_ok-take_member.ensures.taken c.loop-value.invariant.0,
   c.take_member.ensures.rules ∙ c.loop-value.invariant.1,
   read-more member_said are_members MEMBERS few-members (omega arith) c.args.policy.now.members.items c.loop-value.policy.members.items c.take_member.new.policy.members.items c.args.list.now
@@ -31,6 +32,7 @@ returns-in_err-take_member-clause-first c =
     let e = err_from_is_err_and c.from_residual.result c.from_residual.ensures.1 in
     told-on (IsOfMembers (map view c.args.list.now)) c.from_residual.result c.in_err-take_member.field-0.0 e.0 e.1 e.2 (
     first-told member_said are_members member_fault members-kept refl MEMBERS few-members (omega arith) (λ n f. refused.Member n f) IsOfMembers (λ values n f is. is)
-    c.args.policy.now.members.items c.loop-value.policy.members.items c.args.list.now c.loop-value.value-index c.loop-value.entry c.saturating_add-entry.result c.value-item.result c.in_err-take_member.field-0.0
+    c.args.policy.now.members.items c.loop-value.policy.members.items c.args.list.now c.loop-value.value-index c.loop-value.entry c.saturating_add-entry.result c.value-item.result
+    c.in_err-take_member.field-0.0
     c.requires c.loop-value-test.true c.value-item.is c.saturating_add-entry.ensures c.loop-value.invariant.0.fits c.loop-value.invariant.2 c.in_err-take_member.ensures.entry
     )

@@ -31,6 +31,7 @@ returns-in_err-take_rule-clause-first c =
     let e = err_from_is_err_and c.from_residual.result c.from_residual.ensures.1 in
     told-on (IsOfRules (map view c.args.list.now)) c.from_residual.result c.in_err-take_rule.field-0.0 e.0 e.1 e.2 (
     first-told rule_said are_rules rule_fault rules-kept refl RULES few-rules (omega arith) (λ n f. refused.Rule n f) IsOfRules (λ values n f is. is)
-    c.args.policy.now.rules.items c.loop-value.policy.rules.items c.args.list.now c.loop-value.value-index c.loop-value.entry c.saturating_add-entry.result c.value-item.result c.in_err-take_rule.field-0.0
+    c.args.policy.now.rules.items c.loop-value.policy.rules.items c.args.list.now c.loop-value.value-index c.loop-value.entry c.saturating_add-entry.result c.value-item.result
+    c.in_err-take_rule.field-0.0
     c.requires c.loop-value-test.true c.value-item.is c.saturating_add-entry.ensures c.loop-value.invariant.0.fits c.loop-value.invariant.2 c.in_err-take_rule.ensures.entry
     )

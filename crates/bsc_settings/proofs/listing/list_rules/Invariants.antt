@@ -1,0 +1,8 @@
+use Rattle.std.proofs.Common.{◌≡◌, take, flat_map}
+use Rattle.toml.specs.View.{view}
+use Rattle.bsc_settings.specs.Listed.{one_of}
+use Rattle.bsc_settings.specs.Policies.{rule_said}
+use Rattle.bsc_settings.proofs.listing.list_rules.Given as goal
+
+abbrev pub invariant-loop-value : goal.invariant-loop-value
+invariant-loop-value l = l.rules.items ≡ flat_map (λ v. one_of (rule_said (view v))) (take l.value-index l.values)

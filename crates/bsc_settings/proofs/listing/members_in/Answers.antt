@@ -1,0 +1,14 @@
+use Rattle.std.proofs.Common.{◌≡◌, codes, map, subst, List, Some}
+use Rattle.std.specs.Prelude.{IfOk}
+use Rattle.toml.specs.View.{table_view, view}
+use Rattle.bsc_policy.specs.declared.member.Member.{Member}
+use Rattle.bsc_settings.specs.Listed.{values_at}
+use Rattle.bsc_settings.specs.Policies.{member_said}
+use Rattle.bsc_settings.proofs.Sayings.{of_values}
+use Rattle.bsc_settings.proofs.listing.members_in.Goals as goal
+
+pub returns-in-Some : goal.returns-in-Some
+returns-in-Some c =
+    let at : Some (map view c.in-Some.values.now) ≡ values_at (codes "member") (table_view c.args.table.now) = rw c.in-Some.is at c.values_at.ensures in
+    subst (λ (xs : List Member). IfOk c.list_members.result (λ m. m.items ≡ xs))
+    (of_values member_said c.in-Some.values.now (values_at (codes "member") (table_view c.args.table.now)) at) c.list_members.ensures

@@ -1,0 +1,3 @@
+mod Rows
+mod Saying
+mod WorkedTold
