@@ -1,5 +1,7 @@
 -- Who called a hub that was served.
-use Rattle.std.proofs.Common.{inl, inr, ⊎_elim, ◌≡◌, ◌≢◌, ◌⊎◌, ℕ, zero, suc, ◌<◌, Bool, true, false, not, cond, IsTrue, List, [], ◌∷◌, ◌++◌, map, flat_map, length, Option, Some, None, refl, ap, sym, ◌∙◌, subst, arith, append-nil, ◌==◌, ◌||◌, take, Result, Ok, Err, append_assoc, length-append}
+-- It serves clauses of functions of `laws`.
+use Rattle.std.proofs.Common.{inl, inr, ⊎_elim, ◌≡◌, ◌≢◌, ◌⊎◌, ℕ, zero, suc, ◌<◌, Bool, true, false, not, cond, IsTrue, List, [], ◌∷◌, ◌++◌, map, flat_map, length, Option, Some}
+use Rattle.std.proofs.Common.{None, refl, ap, sym, ◌∙◌, subst, arith, append-nil, ◌==◌, ◌||◌, take, Result, Ok, Err, append_assoc, length-append}
 use Rattle.std.specs.List.{AllByRecursion}
 use Rattle.std.specs.Prelude.{⊤}
 use Rattle.std.proofs.lemmas.Bool.{or_cases, eqb-true, eq-eqb}
@@ -30,7 +32,7 @@ use Rattle.bsc_desk.specs.Entries.{stop_entry}
 use Rattle.bsc_edge.specs.declared.notice.Notice.{Notice}
 use Rattle.bsc_edge.specs.declared.said.Said.{Said}
 use Rattle.bsc_turn.specs.declared.pass.Pass.{Pass}
-use Rattle.bsc_turn.specs.declared.view.Ended.{Ended as EndedCaller}
+use Rattle.bsc_turn.specs.declared.view.EndedCaller.{EndedCaller}
 use Rattle.bsc_turn.specs.declared.view.View.{View}
 use Rattle.bsc_turn.specs.Callers.{Rises, callers_in, drawn_in, has}
 use Rattle.bsc_turn.specs.Effects.{IsConsistent, ended_of}
@@ -48,7 +50,8 @@ use Rattle.bsc_session.specs.declared.job.SessionJob.{SessionJob}
 use Rattle.bsc_session.specs.declared.session_end.SessionEnd.{SessionEnd}
 use Rattle.bsc_session.specs.Jobs.{Worked}
 use Rattle.bsc_serve.specs.declared.end.ServeEnd.{ServeEnd}
-use Rattle.bsc_serve.specs.Alone.{AllButStopAreOfJobs, EntriesAreOfJobs, HasEnded, HasEndedAtLast, IsOfJob, JobsAreApart, JobsEndAtLast, IsToldStopped, JobsHaveEnded, NothingBehindStop, SeenAreOfJobs, ServingIsAlone}
+use Rattle.bsc_serve.specs.Alone.{AllButStopAreOfJobs, EntriesAreOfJobs, HasEnded, HasEndedAtLast, IsOfJob, JobsAreApart, JobsEndAtLast, IsToldStopped, JobsHaveEnded}
+use Rattle.bsc_serve.specs.Alone.{NothingBehindStop, SeenAreOfJobs, ServingIsAlone}
 use Rattle.bsc_serve.specs.Events.{AllStand, AreFates, Event, OutAfter, arrived, callers_of, ended, jobs_of, links_of, numbers_of}
 use Rattle.bsc_serve.specs.Fates.{caller_in, job_in, returned, spent, started}
 use Rattle.bsc_serve.specs.Serving.{Cut, CutBy, Serving, cut_callers, cut_numbers}
@@ -220,12 +223,14 @@ module _ {L C N : Type 0} (works : SessionJob L C N → SessionEnd L C N → Typ
       let drew : drawn_list q ≡ numbers_of s.events ++ cut_numbers s.cut = s.drew ∙ ap (λ (l : List ℕ). l ++ (numbers_of s.events ++ cut_numbers s.cut)) first.2 in
       let names : numbers took ≡ front_names ++ late_names =
       map-append (λ (e : EndedCaller). e.number) front (callers_of s.late)
-      ∙ ap (λ (l : List ℕ). l ++ late_names) (map-append (λ (e : EndedCaller). e.number) (callers_of s.events) (cut_callers s.cut) ∙ ap (λ (l : List ℕ). numbers (callers_of s.events) ++ l) (cut_is s.cut)) in
+      ∙ ap (λ (l : List ℕ). l ++ late_names) (map-append (λ (e : EndedCaller). e.number) (callers_of s.events) (cut_callers s.cut)
+      ∙ ap (λ (l : List ℕ). numbers (callers_of s.events) ++ l) (cut_is s.cut)) in
       let both : callers_of (s.events ++ s.late) ≡ callers_of s.events ++ callers_of s.late = callers-append s.events s.late in
       let both_names : numbers (callers_of (s.events ++ s.late)) ≡ numbers (callers_of s.events) ++ late_names =
       ap numbers both ∙ map-append (λ (e : EndedCaller). e.number) (callers_of s.events) (callers_of s.late) in
       let out : OutAfter works [] (s.events ++ s.late) [] = out_then works [] s.still [] s.events s.late s.out s.late_out in
-      let fates : AreFates begins talk before.hub terms p q (s.events ++ s.late) = fates_then begins talk before.hub terms p q s.events s.late s.fates (fates_none before.hub terms p q s.late s.only_ends) in
+      let fates : AreFates begins talk before.hub terms p q (s.events ++ s.late) =
+      fates_then begins talk before.hub terms p q s.events s.late s.fates (fates_none before.hub terms p q s.late s.only_ends) in
       let light : AllByRecursion (λ (e : EndedCaller). e.loads ≡ 0) (callers_of s.events ++ callers_of s.late) =
       subst (AllByRecursion (λ (e : EndedCaller). e.loads ≡ 0)) both (unloaded before.hub terms p q [] (s.events ++ s.late) [] fates tt out) in
       let all : TookAll took q = record {
@@ -335,7 +340,8 @@ module _ {L C N : Type 0} (works : SessionJob L C N → SessionEnd L C N → Typ
       (λ is. has_right (numbers_out o.0) (number_of j.pass ∷ numbers_out (o.1 ++ jobs_of more)) n
       (has_first (number_of j.pass) (numbers_out (o.1 ++ jobs_of more)) n (sym (alone j d o.3).0 ∙ is)))
       (λ a.
-      let later = of_job h terms p q x (front ++ ended_of (view_of d.pass) ∷ []) rest (o.0 ++ o.1) more still f o.4 c (same ∙ sym (append_assoc front (ended_of (view_of d.pass) ∷ []) (callers_of more ++ rest))) n entered a in
+      let later = of_job h terms p q x (front ++ ended_of (view_of d.pass) ∷ []) rest (o.0 ++ o.1) more still f o.4 c
+      (same ∙ sym (append_assoc front (ended_of (view_of d.pass) ∷ []) (callers_of more ++ rest))) n entered a in
       let both : numbers_out ((o.0 ++ o.1) ++ jobs_of more) ≡ numbers_out o.0 ++ numbers_out (o.1 ++ jobs_of more) =
       ap (numbers_out) (append_assoc o.0 o.1 (jobs_of more)) ∙ map-append (λ (y : SessionJob L C N). number_of y.pass) o.0 (o.1 ++ jobs_of more) in
       ⊎_elim
@@ -345,7 +351,8 @@ module _ {L C N : Type 0} (works : SessionJob L C N → SessionEnd L C N → Typ
       (has_cons (view_of d.pass).number (numbers (callers_of more)) n i)
 
   -- the caller of a job that was cut made none
-  cut_none : (q : Pass) (front rest : List EndedCaller) (cut : Option (Cut L)) (end : ServeEnd) → CutBy cut end → IsConsistent (view_of q) → ended_callers q ≡ front ++ (cut_callers cut ++ rest) → (n : ℕ) → own_of (seen q) n ≢ [] → has (numbers (cut_callers cut)) n ≡ true → ⊥
+  cut_none : (q : Pass) (front rest : List EndedCaller) (cut : Option (Cut L)) (end : ServeEnd) → CutBy cut end → IsConsistent (view_of q)
+      → ended_callers q ≡ front ++ (cut_callers cut ++ rest) → (n : ℕ) → own_of (seen q) n ≢ [] → has (numbers (cut_callers cut)) n ≡ true → ⊥
   cut_none q front rest None end by c same n entered i = not_none n i
   cut_none q front rest (Some x) end by c same n entered i =
       let k = ended_so q front x.caller rest c same in
@@ -409,7 +416,8 @@ module _ {L C N : Type 0} (works : SessionJob L C N → SessionEnd L C N → Typ
       (ap (λ (l : List ℕ). has l n) (sym (map-append (λ (x : EndedCaller). x.number) (callers_of s.events) (cut_callers s.cut))) ∙ a)))
       (λ a.
       let out : has (numbers_out (s.still ++ jobs_of s.late)) n ≡ true =
-      of_job before.hub terms p q q (ended_callers s.at_stop) [] s.still s.late [] (fates_none works begins talk alone before.hub terms p q s.late s.only_ends) s.late_out consistent (in_late terms before after end s) n entered a in
+      of_job before.hub terms p q q (ended_callers s.at_stop) [] s.still s.late [] (fates_none works begins talk alone before.hub terms p q s.late s.only_ends) s.late_out consistent
+      (in_late terms before after end s) n entered a in
       let still_is : s.still ++ jobs_of s.late ≡ s.still = ap (λ (js : List (SessionJob L C N)). s.still ++ js) (jobs_none s.late s.only_ends) ∙ append-nil s.still in
       job_there (jobs_of s.events) n (out_among [] s.events s.still s.out n (ap (λ (js : List (SessionJob L C N)). has (numbers_out js) n) (sym still_is) ∙ out)))
       (has_either (numbers front) (numbers (callers_of s.late)) n
@@ -432,7 +440,8 @@ module _ {L C N : Type 0} (works : SessionJob L C N → SessionEnd L C N → Typ
       let k = found_begins before.hub p s.at_stop q _ _ s.stop s.went s.joined.grows in
       let there : entries (seen q) ≡ earlier ++ e ∷ (later ++ k.0) = k.1 ∙ (ap (λ (x : List Entry). x ++ k.0) at ∙ append_assoc earlier (e ∷ later) k.0) in
       ⊎_elim
-      (λ own_pass. absurd (own_there earlier later e (ap (λ (l : List Entry). own l e.caller) (sym at) ∙ (ap (own (found_history (stop_made (number_of p) s.stop) q)) (sym own_pass) ∙ found_none before.hub p s.at_stop q _ _ _ s.stop s.went s.joined mine))))
+      (λ own_pass. absurd (own_there earlier later e (ap (λ (l : List Entry). own l e.caller) (sym at)
+      ∙ (ap (own (found_history (stop_made (number_of p) s.stop) q)) (sym own_pass) ∙ found_none before.hub p s.at_stop q _ _ _ s.stop s.went s.joined mine))))
       (λ job. job)
       (seen_are_of_jobs terms before after end first s earlier (later ++ k.0) e there)
 
@@ -471,11 +480,13 @@ module _ {L C N : Type 0} (works : SessionJob L C N → SessionEnd L C N → Typ
 
   pub jobs_have_ended : JobsHaveEnded works begins talk
   jobs_have_ended terms before after end s none =
-      each_ended (found_history (stop_made (number_of before.beside.pass) s.stop) after.beside.pass) after.beside.pass (ended_callers before.beside.pass) (cut_callers s.cut ++ callers_of s.late) [] s.events
+      each_ended (found_history (stop_made (number_of before.beside.pass) s.stop) after.beside.pass) after.beside.pass (ended_callers before.beside.pass)
+      (cut_callers s.cut ++ callers_of s.late) [] s.events
       (subst (λ (l : List (SessionJob L C N)). OutAfter works [] s.events l) none s.out) s.stop_last s.joined.caller.0.1.1.5 (in_events works begins talk alone terms before after end s)
 
   -- also those that were still out
-  each_ends : (H : List Entry) (q : Pass) (front rest : List EndedCaller) (out : List (SessionJob L C N)) (events : List (Event L C N)) (still : List (SessionJob L C N)) → OutAfter works out events still
+  each_ends : (H : List Entry) (q : Pass) (front rest : List EndedCaller) (out : List (SessionJob L C N)) (events : List (Event L C N)) (still : List (SessionJob L C N))
+      → OutAfter works out events still
       → AllByRecursion (HasEndedAtLast works H q) still → (behind : List Entry) → entries (seen q) ≡ H ++ behind
       → IsConsistent (view_of q) → ended_callers q ≡ front ++ (callers_of events ++ rest) → AllByRecursion (HasEndedAtLast works H q) (out ++ jobs_of events)
   each_ends H q front rest out [] still o later behind begins c same =
@@ -527,7 +538,8 @@ told_by a H caller (Leave conn taken empties) looks r stopped is may = tt
 told_by a H caller Stop looks r stopped is may = (let bad : false ≡ true = subst (λ (b : Bool). IsTrue (not b)) stopped may in cc)
 told_by a H caller Count looks r stopped is may = tt
 
-pub nothing_behind_stop : {L C N : Type 0} (works : SessionJob L C N → SessionEnd L C N → Type 0) (begins : Option (List ℕ) → ℕ → N → Type 0) (talk : L → Option (List Said)) → NothingBehindStop works begins talk
+pub nothing_behind_stop : {L C N : Type 0} (works : SessionJob L C N → SessionEnd L C N → Type 0) (begins : Option (List ℕ) → ℕ → N → Type 0) (talk : L → Option (List Said))
+    → NothingBehindStop works begins talk
 nothing_behind_stop works begins talk terms before after end s earlier later e at stopped =
     let a : About = about_of before.hub in
     let k = Legal-at a earlier later e (subst (λ (H : List Entry). Legal a H) at s.joined.caller.1) in
@@ -542,14 +554,18 @@ RisesOn (n ∷ ns) = AllByRecursion (λ (m : ℕ). n < m) ns × RisesOn ns
 
 rises_on : (xs : List ℕ) → Rises xs → RisesOn xs
 rises_on [] r = tt
-rises_on (n ∷ ns) r = (recursion_from_All (λ (m : ℕ). n < m) ns (λ k d within. r 0 (suc k) d (omega arith) (omega (arith, within))), rises_on ns (λ i j d lt within. r (suc i) (suc j) d (omega (arith, lt)) (omega (arith, within))))
+rises_on (n ∷ ns) r = (
+  recursion_from_All (λ (m : ℕ). n < m) ns (λ k d within. r 0 (suc k) d (omega arith) (omega (arith, within))),
+  rises_on ns (λ i j d lt within. r (suc i) (suc j) d (omega (arith, lt)) (omega (arith, within))),
+)
 
 rises_behind : (xs ys : List ℕ) → RisesOn (xs ++ ys) → RisesOn ys
 rises_behind [] ys r = r
 rises_behind (x ∷ xs) ys r = rises_behind xs ys r.1
 
 module _ {L C N : Type 0} where
-  above_all : (n : ℕ) (events : List (Event L C N)) (rest : List ℕ) → AllByRecursion (λ (m : ℕ). n < m) (numbers_of events ++ rest) → AllByRecursion (λ (j : SessionJob L C N). n ≢ number_of j.pass) (jobs_of events)
+  above_all : (n : ℕ) (events : List (Event L C N)) (rest : List ℕ) → AllByRecursion (λ (m : ℕ). n < m) (numbers_of events ++ rest)
+      → AllByRecursion (λ (j : SessionJob L C N). n ≢ number_of j.pass) (jobs_of events)
   above_all n [] rest a = tt
   above_all n (arrived l (started j) ∷ more) rest a = ((λ e. (let lt = a.0 in omega (arith, e, lt))), above_all n more rest a.1)
   above_all n (arrived l (returned e) ∷ more) rest a = above_all n more rest a.1

@@ -1,9 +1,10 @@
 -- Lists of what happened, and of what is told, with one more.
+-- It serves clauses of functions of `accepting`, `laws`, `serving` and `taking_in`.
 use Rattle.std.proofs.Common.{inl, inr, ◌≡◌, ℕ, ◌+◌, ◌≤◌, List, [], ◌∷◌, ◌++◌, length, Option, Some, None, Ok, Err, refl, ap, sym, ◌∙◌, subst, arith, append-nil, append_assoc}
 use Rattle.std.specs.Prelude.{map, replicate, true}
 use Rattle.std.proofs.lemmas.List.{map-append, replicate_more}
 use Rattle.bsc_turn.specs.declared.pass.Pass.{Pass}
-use Rattle.bsc_turn.specs.declared.view.Ended.{Ended as EndedCaller}
+use Rattle.bsc_turn.specs.declared.view.EndedCaller.{EndedCaller}
 use Rattle.bsc_turn.specs.Effects.{ended_of}
 use Rattle.bsc_turn.specs.Histories.{StartsWith}
 use Rattle.bsc_turn.specs.Passes.{newest_number, seen, view_of}
@@ -155,18 +156,30 @@ split_later h p m q x begins is = record {
 }
 
 module _ {L C N : Type 0} (begins : Option (List ℕ) → ℕ → N → Type 0) (talk : L → Option (List Said)) where
-  fate_later : (h : Hub) (terms : Terms) (p m q : Pass) (l : L) (f : Fate (SessionJob L C N)) → StartsWith (seen q) (seen m) → SpentStays h m q → IsFate begins talk h terms p m l f → IsFate begins talk h terms p q l f
-  fate_later h terms p m q l (started j) begins stays is = record { link = is.link; hub = is.hub; pass = split_later h p m q j.pass begins is.pass; limits = is.limits; turns = is.turns; journal = is.journal; is_recorded = is.is_recorded; policy = is.policy }
+  fate_later : (h : Hub) (terms : Terms) (p m q : Pass) (l : L) (f : Fate (SessionJob L C N)) → StartsWith (seen q) (seen m) → SpentStays h m q → IsFate begins talk h terms p m l f
+      → IsFate begins talk h terms p q l f
+  fate_later h terms p m q l (started j) begins stays is = record {
+    link = is.link;
+    hub = is.hub;
+    pass = split_later h p m q j.pass begins is.pass;
+    limits = is.limits;
+    turns = is.turns;
+    journal = is.journal;
+    is_recorded = is.is_recorded;
+    policy = is.policy;
+  }
   fate_later h terms p m q l (returned e) begins stays is = is
   fate_later h terms p m q l spent begins stays is = (stays is.0, is.1)
 
   -- what became of links is so by what the pass has seen later
-  pub fates_later : (h : Hub) (terms : Terms) (p m q : Pass) (more : List (Event L C N)) → StartsWith (seen q) (seen m) → SpentStays h m q → AreFates begins talk h terms p m more → AreFates begins talk h terms p q more
+  pub fates_later : (h : Hub) (terms : Terms) (p m q : Pass) (more : List (Event L C N)) → StartsWith (seen q) (seen m) → SpentStays h m q → AreFates begins talk h terms p m more
+      → AreFates begins talk h terms p q more
   fates_later h terms p m q [] begins stays are = tt
   fates_later h terms p m q (arrived l f ∷ more) begins stays are = (fate_later h terms p m q l f begins stays are.0, fates_later h terms p m q more begins stays are.1)
   fates_later h terms p m q (ended j d ∷ more) begins stays are = fates_later h terms p m q more begins stays are
 
-  pub fates_then : (h : Hub) (terms : Terms) (p q : Pass) (more last : List (Event L C N)) → AreFates begins talk h terms p q more → AreFates begins talk h terms p q last → AreFates begins talk h terms p q (more ++ last)
+  pub fates_then : (h : Hub) (terms : Terms) (p q : Pass) (more last : List (Event L C N)) → AreFates begins talk h terms p q more → AreFates begins talk h terms p q last
+      → AreFates begins talk h terms p q (more ++ last)
   fates_then h terms p q [] last a b = b
   fates_then h terms p q (arrived l f ∷ more) last a b = (a.0, fates_then h terms p q more last a.1 b)
   fates_then h terms p q (ended j d ∷ more) last a b = fates_then h terms p q more last a b

@@ -1,4 +1,5 @@
 -- Jobs that were out before a hub is served: one end of each is given back.
+-- It serves the clauses of `await_all`.
 use Rattle.std.proofs.Common.{◌≡◌, ◌+◌, List, [], ◌∷◌, ◌++◌, length, Option, Some, None, ap, subst, sym, arith, append-nil, length-append}
 use Rattle.bsc_edge.specs.Told.{Comes, Ends, Grows, ended_in}
 use Rattle.bsc_edge.proofs.Common.{grows_none, grows_then}

@@ -1,5 +1,7 @@
 -- The end of serving.
-use Rattle.std.proofs.Common.{inl, inr, ◌≡◌, ℕ, ◌+◌, ◌≤◌, List, [], ◌∷◌, ◌++◌, length, take, Bool, true, false, cond, Option, Some, None, Ok, Err, refl, ap, sym, ◌∙◌, subst, arith, append-nil, append_assoc, length-append}
+-- It serves the clauses of `serve_on` and `stop_first`.
+use Rattle.std.proofs.Common.{inl, inr, ◌≡◌, ℕ, ◌+◌, ◌≤◌, List, [], ◌∷◌, ◌++◌, length, take, Bool, true, false, cond, Option, Some, None, Ok, Err, refl, ap, sym, ◌∙◌, subst, arith}
+use Rattle.std.proofs.Common.{append-nil, append_assoc, length-append}
 use Rattle.std.specs.Prelude.{Result, ◌<◌, ◌^◌, ◌⊎◌, ◌≢◌, position}
 use Rattle.std.specs.List.{position_from}
 use Rattle.std.proofs.lemmas.Bool.{false_from_ne_true}
@@ -15,7 +17,7 @@ use Rattle.bsc_history.specs.Marks.{entries}
 use Rattle.bsc_history.specs.Counting.{counts}
 use Rattle.bsc_history.specs.Replies.{is_stopped}
 use Rattle.bsc_turn.specs.declared.pass.Pass.{Pass}
-use Rattle.bsc_turn.specs.declared.view.Ended.{Ended as EndedCaller}
+use Rattle.bsc_turn.specs.declared.view.EndedCaller.{EndedCaller}
 use Rattle.bsc_turn.specs.Histories.{StartsWith}
 use Rattle.bsc_turn.specs.Passes.{drawn_list, number_of, seen}
 use Rattle.bsc_hub.specs.declared.hub.Hub.{Hub}
@@ -28,16 +30,18 @@ use Rattle.bsc_edge.specs.declared.begun.Begun.{Begun}
 use Rattle.bsc_edge.specs.declared.said.Said.{Said}
 use Rattle.bsc_edge.specs.Told.{Grows, Stays}
 use Rattle.bsc_edge.proofs.Common.{grows_from, grows_then}
-use Rattle.bsc_notes.specs.Notes.{HasLine, Records}
+use Rattle.bsc_session.specs.Notes.Notes.{HasLine, Records}
 use Rattle.bsc_serve.specs.declared.end.ServeEnd.{ServeEnd}
-use Rattle.bsc_serve.specs.declared.end.ServeEnd.TheVariants.{Done, StoppedBefore, AcceptFault, JournalFault, NoMemory}
+use Rattle.bsc_serve.specs.declared.end.ServeEnd.TheVariants.{Done, StoppedBefore, Requested, AcceptFault, JournalFault, NoMemory}
 use Rattle.bsc_serve.specs.declared.halt.Halt.{Halt}
 use Rattle.bsc_serve.specs.declared.halt.Halt.TheVariants.{AcceptFault as HaltFault, JournalFault as HaltJournal, NoMemory as HaltMemory}
 use Rattle.bsc_session.specs.declared.job.SessionJob.{SessionJob}
 use Rattle.bsc_session.specs.declared.session_end.SessionEnd.{SessionEnd}
 use Rattle.bsc_serve.specs.Terms.{Terms}
 use Rattle.bsc_serve.specs.Events.{Event, OutAfter, begun_of, callers_of, ends_of, jobs_of, links_of, numbers_of, returned_of, unstarted_of}
-use Rattle.bsc_serve.specs.Inner.{CutAt, GaveBack, Halted, Stopped, Taken, TakesIn, fault_halt, halt_end, stock_of, whole_end, world_of}
+use Rattle.bsc_serve.specs.Asking.{EndsAsked, EndsUnasked}
+use Rattle.bsc_serve.specs.declared.tally.Tally.{Tally}
+use Rattle.bsc_serve.specs.Inner.{CutAt, GaveBack, Halted, Stopped, Taken, TakesIn, asked_end, fault_halt, halt_end, stock_of, whole_end, world_of}
 use Rattle.bsc_serve.specs.Serving.{AreAnswered, Cut, CutBy, EndsSo, IsCutShort, IsWithin, JournalFailed, Loses, RoseBy, Serving, StopAnswers, cut_callers, cut_links, stop_notes}
 use Rattle.bsc_serve.specs.Tallies.{CountsUp, Remains}
 use Rattle.bsc_serve.specs.Worlds.{ServeWorld, Stock, served_world}
@@ -102,6 +106,12 @@ within_whole : (sessions : Option ℕ) (n : ℕ) → Remains sessions n (Some 0)
 within_whole None n r = absurd r
 within_whole (Some s) n r = omega (arith, r)
 
+-- no more have come than are awaited, where more may come
+within_so : (sessions : Option ℕ) (n : ℕ) (k : Option ℕ) → Remains sessions n k → IsWithin sessions (n + 0)
+within_so None n k r = tt
+within_so (Some s) n None r = absurd r
+within_so (Some s) n (Some k) r = omega (arith, r)
+
 -- a job whose journal couldn't be begun
 halts_failed : (fault : LinkFault) → HaltJournal ≡ fault_halt fault → fault ≡ Failed
 halts_failed Failed e = refl
@@ -147,6 +157,15 @@ module _ {L C N : Type 0} where
   ends_halted awaited events cut still stop (Some Failed) HaltMemory at = inl refl
   ends_halted awaited events cut still stop (Some NoRoom) HaltMemory at = none_failed cut HaltMemory (Some NoRoom) at (λ e. cc) (λ e. cc)
 
+  ends_asked : (awaited : Option ℕ) (events : List (Event L C N)) (still : List (SessionJob L C N)) (u : ℕ) (r : Result (Told Counts) AlreadyStopped) (lost : Option LinkFault)
+      → CountsUp u (unstarted_of events) → EndsSo awaited events None still r lost (asked_end u r lost)
+  ends_asked awaited events still u (Ok t) None counted = (counted, (t.at, refl), refl)
+  ends_asked awaited events still u (Err already) None counted = (counted, (already.at, refl), refl)
+  ends_asked awaited events still u r (Some Failed) counted = inl refl
+  ends_asked awaited events still u r (Some NoRoom) counted =
+      let cut : Option (Cut L) = None in
+      none_failed cut HaltMemory (Some NoRoom) (λ e. cc) (λ e. cc) (λ e. cc)
+
 -- ---- what an end says of its causes
 
 pub whole_lost : (u : ℕ) (r : Result (Told Counts) AlreadyStopped) (lost : Option LinkFault) → whole_end u r lost ≡ JournalFault → lost ≡ Some Failed
@@ -160,6 +179,18 @@ whole_served u (Ok t) None e = (let k : Done t.said u ≡ AcceptFault = e in cc)
 whole_served u (Err already) None e = (let k : StoppedBefore already.at u ≡ AcceptFault = e in cc)
 whole_served u r (Some Failed) e = (let k : JournalFault ≡ AcceptFault = e in cc)
 whole_served u r (Some NoRoom) e = (let k : NoMemory ≡ AcceptFault = e in cc)
+
+pub asked_lost : (u : ℕ) (r : Result (Told Counts) AlreadyStopped) (lost : Option LinkFault) → asked_end u r lost ≡ JournalFault → lost ≡ Some Failed
+asked_lost u (Ok t) None e = absurd (let k : Requested (Some t.said) u ≡ JournalFault = e in cc)
+asked_lost u (Err already) None e = absurd (let k : Requested None u ≡ JournalFault = e in cc)
+asked_lost u r (Some Failed) e = refl
+asked_lost u r (Some NoRoom) e = absurd (let k : NoMemory ≡ JournalFault = e in cc)
+
+pub asked_served : (u : ℕ) (r : Result (Told Counts) AlreadyStopped) (lost : Option LinkFault) → asked_end u r lost ≡ AcceptFault → ⊥
+asked_served u (Ok t) None e = (let k : Requested (Some t.said) u ≡ AcceptFault = e in cc)
+asked_served u (Err already) None e = (let k : Requested None u ≡ AcceptFault = e in cc)
+asked_served u r (Some Failed) e = (let k : JournalFault ≡ AcceptFault = e in cc)
+asked_served u r (Some NoRoom) e = (let k : NoMemory ≡ AcceptFault = e in cc)
 
 pub halt_failed : (halt : Halt) (lost : Option LinkFault) → halt_end halt lost ≡ AcceptFault → halt ≡ HaltFault
 halt_failed HaltFault lost e = refl
@@ -176,6 +207,29 @@ halt_lost HaltFault (Some NoRoom) e x y = absurd (let k : NoMemory ≡ JournalFa
 halt_lost HaltMemory None e x y = absurd (let k : NoMemory ≡ JournalFault = e in cc)
 halt_lost HaltMemory (Some Failed) e x y = inr (y refl)
 halt_lost HaltMemory (Some NoRoom) e x y = absurd (let k : NoMemory ≡ JournalFault = e in cc)
+
+-- ---- whether an end may come where nobody asked, or the stop was asked for
+
+pub asked_so : (u : ℕ) (r : Result (Told Counts) AlreadyStopped) (lost : Option LinkFault) → EndsAsked (asked_end u r lost)
+asked_so u (Ok t) None = tt
+asked_so u (Err already) None = tt
+asked_so u r (Some Failed) = tt
+asked_so u r (Some NoRoom) = tt
+
+pub whole_unasked : (u : ℕ) (r : Result (Told Counts) AlreadyStopped) (lost : Option LinkFault) → EndsUnasked (whole_end u r lost)
+whole_unasked u (Ok t) None = tt
+whole_unasked u (Err already) None = tt
+whole_unasked u r (Some Failed) = tt
+whole_unasked u r (Some NoRoom) = tt
+
+pub halt_unasked : (halt : Halt) (lost : Option LinkFault) → EndsUnasked (halt_end halt lost)
+halt_unasked HaltJournal lost = tt
+halt_unasked HaltFault None = tt
+halt_unasked HaltFault (Some Failed) = tt
+halt_unasked HaltFault (Some NoRoom) = tt
+halt_unasked HaltMemory None = tt
+halt_unasked HaltMemory (Some Failed) = tt
+halt_unasked HaltMemory (Some NoRoom) = tt
 
 -- what halted cut it short
 halts_short : (halt : Halt) (lost : Option LinkFault) → IsCutShort (halt_end halt lost)
@@ -199,7 +253,8 @@ rose_from n a b c later (inr x) = inr x
 module _ {L C N : Type 0} (works : SessionJob L C N → SessionEnd L C N → Type 0) (begins : Option (List ℕ) → ℕ → N → Type 0) (talk : L → Option (List Said)) where
   -- all arrived, all sessions ended and were taken in, and the hub was stopped
   pub serves_whole : (h : Hub) (terms : Terms) (w m : ServeWorld L C N) (q : Pass) (u : ℕ) (r : Result (Told Counts) AlreadyStopped)
-      (lost : Option LinkFault) (held held' : Option (List ℕ)) → ((s : ℕ) → terms.sessions ≡ Some s → s < 2 ^ 64) → w.out ≡ [] → Taken works begins talk h terms w m (record { remaining = Some 0; unstarted = u })
+      (lost : Option LinkFault) (held held' : Option (List ℕ)) → ((s : ℕ) → terms.sessions ≡ Some s → s < 2 ^ 64) → w.out ≡ []
+      → Taken works begins talk h terms w m (record { remaining = Some 0; unstarted = u })
       → m.out ≡ [] → Stopped h m.pass q r → Records held held' (stop_notes (number_of m.pass) r) lost
       → HasLine (stop_notes (number_of m.pass) r) lost → Serving works begins talk terms (served_world h held w) (served_world h held' (record m { pass = q })) (whole_end u r lost)
   serves_whole h terms w m q u r lost held held' fits none_before t none s noted line =
@@ -306,9 +361,67 @@ module _ {L C N : Type 0} (works : SessionJob L C N → SessionEnd L C N → Typ
         ends = ends_halted terms.sessions t.events t.cut m.out r lost halt t.cut_last;
       }
 
+  -- the stop was asked for, the hub was stopped, and the sessions ended and were taken in
+  pub serves_asked : (h : Hub) (terms : Terms) (w m : ServeWorld L C N) (v q : Pass) (s : Stock L C N) (tally : Tally)
+      (r : Result (Told Counts) AlreadyStopped) (lost : Option LinkFault) (held held' : Option (List ℕ)) → w.out ≡ [] → Taken works begins talk h terms w m tally → Stopped h m.pass v r
+      → TakesIn works h v (stock_of m) q s → s.out ≡ [] → Records held held' (stop_notes (number_of m.pass) r) lost
+      → HasLine (stop_notes (number_of m.pass) r) lost → Serving works begins talk terms (served_world h held w) (served_world h held' (world_of q s m)) (asked_end tally.unstarted r lost)
+  serves_asked h terms w m v q s tally r lost held held' none_before t stopped x none noted line =
+      let n = length (links_of t.events) + 0 in
+      let all : length (links_of t.events) ≡ n = omega arith in
+      let took : List EndedCaller = callers_of t.events ++ [] in
+      let before : Went h w.pass n took None m.pass =
+      subst (λ k. Went h w.pass k took None m.pass) all
+      (subst (λ xs. Went h w.pass (length (links_of t.events)) xs None m.pass) (sym (append-nil (callers_of t.events))) t.went) in
+      let went : Went h w.pass n took (stop_made (number_of w.pass) r) v = stops_so h w.pass m.pass v n took r before stopped in
+      record {
+        events = t.events;
+        cut = None;
+        still = m.out;
+        stop = r;
+        at_stop = v;
+        late = x.late;
+        lost = lost;
+        cut_last = tt;
+        cut_so = tt;
+        hub = refl;
+        left = subst (λ xs. Loses w.links m.links xs) (sym (append-nil (links_of t.events))) t.left;
+        came = subst (λ xs. Grows w.came m.came xs) (sym (append-nil (links_of t.events))) t.came;
+        within = within_so terms.sessions (length (links_of t.events)) tally.remaining t.remains;
+        asks = t.asks;
+        asked = t.asked;
+        idle = t.idle;
+        quiet = t.quiet;
+        answered = inl (let k = t.answered in omega (arith, k));
+        begun = subst (λ (xs : List Begun). Grows w.begun m.begun xs) (sym (append-nil (begun_of terms.prefix t.events))) t.begun;
+        jobs = grows_still w.jobs m.jobs s.jobs (jobs_of t.events) t.jobs x.jobs;
+        fates = fates_later begins talk h terms w.pass m.pass q t.events (starts_then (seen m.pass) (seen v) (seen q) stopped.passed.grows x.went.grows)
+            (λ e. x.loaded ∙ stays_stopped h m.pass v r stopped e) t.fates;
+        returned = rose_later (returned_of t.events) w.unstarted m.unstarted s.unstarted t.returned x.later;
+        out = t.out;
+        late_out = subst (λ (o : List (SessionJob L C N)). OutAfter works m.out x.late o) none x.out;
+        only_ends = x.none;
+        gathered = none;
+        earlier = [];
+        one_each = sym (ap (λ (o : List (SessionJob L C N)). length o) none_before);
+        given_back = grows_then w.given_back m.given_back s.given_back (ends_of t.events) (ends_of x.late) t.given_back x.given_back;
+        went = went;
+        joined = x.went;
+        same = x.same;
+        stopped = answers_later h w.pass v q n took r went x.went.grows (stop_answers h m.pass v r stopped);
+        drew = drew_no_number h v q (callers_of x.late) None x.went ∙ (drew_no_number h m.pass v [] (stop_made (number_of m.pass) r) stopped.passed
+            ∙ (t.drew ∙ ap (λ (k : List ℕ). drawn_list w.pass ++ k) (sym (append-nil (numbers_of t.events)))));
+        stop_last = stop_stands h w.pass v q n t.events [] (callers_of x.late) r went x.went t.all_ended;
+        records = subst (λ k. Records held held' (stop_notes k r) lost) t.went.number noted;
+        has_line = subst (λ k. HasLine (stop_notes k r) lost) t.went.number line;
+        ends = ends_asked terms.sessions t.events m.out tally.unstarted r lost t.counted;
+      }
+
   -- what the spawner had out before was awaited at first
-  pub serves_after : (h : Hub) (terms : Terms) (w v : ServeWorld L C N) (s : Stock L C N) (held held' : Option (List ℕ)) (end : ServeEnd) → Stays w.jobs s.jobs → GaveBack w.out s.out w.given_back s.given_back
-      → w.unstarted ≤ s.unstarted → Serving works begins talk terms (served_world h held (world_of w.pass s w)) (served_world h held' v) end → Serving works begins talk terms (served_world h held w) (served_world h held' v) end
+  pub serves_after : (h : Hub) (terms : Terms) (w v : ServeWorld L C N) (s : Stock L C N) (held held' : Option (List ℕ)) (end : ServeEnd) → Stays w.jobs s.jobs
+      → GaveBack w.out s.out w.given_back s.given_back
+      → w.unstarted ≤ s.unstarted → Serving works begins talk terms (served_world h held (world_of w.pass s w)) (served_world h held' v) end
+      → Serving works begins talk terms (served_world h held w) (served_world h held' v) end
   serves_after h terms w v s held held' end stays gave later t = record {
     events = t.events;
     cut = t.cut;

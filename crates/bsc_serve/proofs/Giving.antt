@@ -1,11 +1,12 @@
 -- A link gets its session, or doesn't.
+-- It serves the clauses of `hand_over` and `start_session`.
 use Rattle.std.proofs.Common.{inl, inr, ◌≡◌, ℕ, List, [], ◌∷◌, Bool, true, false, None, Ok, Err, refl, sym, ◌∙◌, subst, arith, append-nil, ap, ◌++◌}
 use Rattle.std.specs.Prelude.{Result, ◌<◌, ◌≢◌, Option, Some, is_some, option_map}
 use Rattle.std.specs.Arc.{arc_value}
 use Rattle.bsc_outside.specs.Faults.{HasRisen}
 use Rattle.bsc_history.specs.declared.mark.Stamped.{Stamped}
 use Rattle.bsc_turn.specs.declared.pass.Pass.{Pass}
-use Rattle.bsc_turn.specs.declared.view.Ended.{Ended as EndedCaller}
+use Rattle.bsc_turn.specs.declared.view.EndedCaller.{EndedCaller}
 use Rattle.bsc_turn.specs.Effects.{ended_of}
 use Rattle.bsc_turn.specs.Histories.{StartsWith}
 use Rattle.bsc_turn.specs.Passes.{drawn_list, ended_callers, newest_number, number_of, seen, view_of}
@@ -81,7 +82,8 @@ calls_caller h prefix came p m x b b' off told = subst (λ (n : ℕ). Grows b b'
 
 module _ {L C N : Type 0} (talk : L → Option (List Said)) where
   -- its job couldn't be made
-  pub fares_unmade : (h : Hub) (prefix : Option (List ℕ)) (l : L) (p m q x : Pass) (s : Stock L C N) (b b' : Option (List Begun)) (came : Bool) (fault : LinkFault) → SplitsOff h p m x → TakesBack h m q x
+  pub fares_unmade : (h : Hub) (prefix : Option (List ℕ)) (l : L) (p m q x : Pass) (s : Stock L C N) (b b' : Option (List Begun)) (came : Bool) (fault : LinkFault) → SplitsOff h p m x
+      → TakesBack h m q x
       → Grows b b' (begun_call prefix came (number_of x) ∷ []) → (fault ≡ FaultFailed → came ≡ false) → IsTurnedAway talk l → LacksRoom talk h prefix l (giver p s b) (giver q s b') fault
   fares_unmade h prefix l p m q x s b b' came fault off t told none turned = record {
     caller = ended_of (view_of x);
@@ -144,7 +146,8 @@ module _ {L C N : Type 0} (begins : Option (List ℕ) → ℕ → N → Type 0) 
 
   -- a job was made and handed over
   pub fares_made : (h : Hub) (terms : Terms) (p m q x : Pass) (l : L) (job : SessionJob L C N)
-      (s s' : Stock L C N) (b b' : Option (List Begun)) (r : Result Bool LinkFault) → SplitsOff h p m x → IsMadeFor begins h terms x l job → Grows b b' (begun_call terms.prefix true (number_of x) ∷ [])
+      (s s' : Stock L C N) (b b' : Option (List Begun)) (r : Result Bool LinkFault) → SplitsOff h p m x → IsMadeFor begins h terms x l job
+      → Grows b b' (begun_call terms.prefix true (number_of x) ∷ [])
       → r ≢ Err FaultFailed → HandsOver h m q job s s' r → TurnsAway talk job.link r → Fares begins talk h terms l (giver p s b) (giver q s' b') r
   fares_made h terms p m q x l job s s' b b' (Ok true) off made told other t away = record {
     fate = started job;

@@ -6,3 +6,4 @@ mod Sessions
 mod Ending
 mod Alone
 mod Waking
+mod Looking

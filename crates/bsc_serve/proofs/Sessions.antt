@@ -1,4 +1,5 @@
 -- Sessions that have ended: their callers are taken in, and all that these entered stands before the Stop.
+-- It serves clauses of functions of `laws`, `serving` and `taking_in`.
 use Rattle.std.proofs.Common.{inl, inr, ◌≡◌, ℕ, ◌+◌, ◌≤◌, List, [], ◌∷◌, ◌++◌, length, take, Option, None, Ok, Err, refl, ap, sym, ◌∙◌, subst, arith, append_assoc, append-nil}
 use Rattle.std.specs.Prelude.{◌≢◌, ◌⊎◌, Result, map, true}
 use Rattle.std.proofs.lemmas.List.{length-map, map-append, take_at}
@@ -13,7 +14,7 @@ use Rattle.bsc_history.specs.Entries.{own}
 use Rattle.bsc_history.specs.Marks.{entries}
 use Rattle.bsc_history.proofs.More.{entries-more}
 use Rattle.bsc_turn.specs.declared.pass.Pass.{Pass}
-use Rattle.bsc_turn.specs.declared.view.Ended.{Ended as EndedCaller}
+use Rattle.bsc_turn.specs.declared.view.EndedCaller.{EndedCaller}
 use Rattle.bsc_turn.specs.Effects.{IsConsistent, ended_of}
 use Rattle.bsc_turn.specs.Histories.{StartsWith, own_of}
 use Rattle.bsc_turn.specs.Passes.{drawn_list, ended_callers, newest_number, number_of, own_list, seen, view_of}
@@ -37,7 +38,8 @@ use Rattle.bsc_serve.specs.Inner.{AllEnded, AllOurs, GoesOn, IsOurEnd, IsOurs, T
 use Rattle.bsc_serve.specs.Serving.{Loses, RoseBy}
 use Rattle.bsc_serve.specs.Tallies.{CountsUp, Remains}
 use Rattle.bsc_serve.specs.Worlds.{Stock}
-use Rattle.bsc_serve.proofs.Arrivals.{all_ended_then, callers-append, ends-append, fates_later, fates_then, grows_no_more, grows_still, jobs-append, links-append, numbers-append, out_then, returned-append, rose_later, unstarted-append}
+use Rattle.bsc_serve.proofs.Arrivals.{all_ended_then, callers-append, ends-append, fates_later, fates_then, grows_no_more, grows_still, jobs-append, links-append, numbers-append}
+use Rattle.bsc_serve.proofs.Arrivals.{out_then, returned-append, rose_later, unstarted-append}
 
 module _ {L C N : Type 0} where
   ours_split : (h : Hub) (before : List (SessionJob L C N)) (j : SessionJob L C N) (behind : List (SessionJob L C N)) → AllOurs h (before ++ j ∷ behind) → IsOurs h j × AllOurs h (before ++ behind)
@@ -51,7 +53,8 @@ module _ {L C N : Type 0} where
       let goes = w.served.goes in
       ((subst (λ (y : Hub). IsCaller y d.pass) ours.0 goes.caller, goes.number), goes.took_in ∙ ours.1)
 
-drawn_same : (h : Hub) (w p q : Pass) → newest_number q ≡ newest_number p → (newest_number w ≤ newest_number p) ⊎ (newest_number p ≡ limit_of h) → (newest_number w ≤ newest_number q) ⊎ (newest_number q ≡ limit_of h)
+drawn_same : (h : Hub) (w p q : Pass) → newest_number q ≡ newest_number p → (newest_number w ≤ newest_number p) ⊎ (newest_number p ≡ limit_of h) → (newest_number w ≤ newest_number q)
+    ⊎ (newest_number q ≡ limit_of h)
 drawn_same h w p q e (inl x) = inl (omega (arith, e, x))
 drawn_same h w p q e (inr x) = inr (e ∙ x)
 
@@ -144,7 +147,8 @@ both_empty {A} (x ∷ xs) ys e = absurd (let bad : x ∷ (xs ++ ys) ≡ [] = e i
 
 module _ {L C N : Type 0} (works : SessionJob L C N → SessionEnd L C N → Type 0) where
   -- none has ended
-  pub takes_none : (h : Hub) (p : Pass) (s t : Stock L C N) → IsCaller h p → t.out ≡ s.out → Stays s.jobs t.jobs → Grows s.given_back t.given_back [] → s.unstarted ≤ t.unstarted → TakesIn works h p s p t
+  pub takes_none : (h : Hub) (p : Pass) (s t : Stock L C N) → IsCaller h p → t.out ≡ s.out → Stays s.jobs t.jobs → Grows s.given_back t.given_back [] → s.unstarted ≤ t.unstarted
+      → TakesIn works h p s p t
   takes_none h p s t is same stays grew later = record {
     late = [];
     none = refl;
@@ -160,7 +164,8 @@ module _ {L C N : Type 0} (works : SessionJob L C N → SessionEnd L C N → Typ
 
   -- one has ended, and its caller was taken in
   pub takes_one : (h : Hub) (p q : Pass) (s t : Stock L C N) (d : SessionEnd L C N) (e : Ends works s.out t.out d) → IsOurEnd h e.job d
-      → Passed h p (ended_of (view_of d.pass) ∷ []) None q → newest_number q ≡ newest_number p → Stays s.jobs t.jobs → Grows s.given_back t.given_back (d ∷ []) → s.unstarted ≤ t.unstarted → TakesIn works h p s q t
+      → Passed h p (ended_of (view_of d.pass) ∷ []) None q → newest_number q ≡ newest_number p → Stays s.jobs t.jobs → Grows s.given_back t.given_back (d ∷ []) → s.unstarted ≤ t.unstarted
+      → TakesIn works h p s q t
   takes_one h p q s t d e is went loaded stays grew later = record {
     late = ended e.job d ∷ [];
     none = refl;
@@ -191,7 +196,8 @@ module _ {L C N : Type 0} (works : SessionJob L C N → SessionEnd L C N → Typ
   }
 
 -- a caller that ended in a pass has in what the pass has seen its own list and no more
-pub ended_so : (q : Pass) (front : List EndedCaller) (e : EndedCaller) (rest : List EndedCaller) → IsConsistent (view_of q) → ended_callers q ≡ front ++ e ∷ rest → ((view_of q).number ≢ e.number) × (own_of (seen q) e.number ≡ e.own)
+pub ended_so : (q : Pass) (front : List EndedCaller) (e : EndedCaller) (rest : List EndedCaller) → IsConsistent (view_of q) → ended_callers q ≡ front ++ e ∷ rest
+    → ((view_of q).number ≢ e.number) × (own_of (seen q) e.number ≡ e.own)
 ended_so q front e rest c same =
     let has : get_elem? (ended_callers q) (length front) ≡ some e =
     subst (λ (x : List EndedCaller). get_elem? x (length front) ≡ some e) (sym same) (at_middle front e rest) in
@@ -216,7 +222,8 @@ module _ {L C N : Type 0} where
       )
 
 -- of another caller a stop found as much as the pass has then seen
-stop_found : (h : Hub) (p q : Pass) (drew : ℕ) (took : List EndedCaller) (r : Result (Told Counts) AlreadyStopped) → Went h p drew took (stop_made (number_of p) r) q → (n : ℕ) → (view_of q).number ≢ n → own (found_history (stop_made (number_of p) r) q) n ≡ own_of (seen q) n
+stop_found : (h : Hub) (p q : Pass) (drew : ℕ) (took : List EndedCaller) (r : Result (Told Counts) AlreadyStopped) → Went h p drew took (stop_made (number_of p) r) q → (n : ℕ)
+    → (view_of q).number ≢ n → own (found_history (stop_made (number_of p) r) q) n ≡ own_of (seen q) n
 stop_found h p q drew took (Err already) w n apart = refl
 stop_found h p q drew took (Ok t) w n apart =
     let m = w.makes in

@@ -1,8 +1,10 @@
 -- One link more in the loop that takes links, or one end of a session.
-use Rattle.std.proofs.Common.{inl, inr, ◌≡◌, ℕ, zero, suc, ◌+◌, ◌≤◌, List, [], ◌∷◌, ◌++◌, length, Bool, Option, Some, None, Ok, Err, refl, ap, sym, ◌∙◌, subst, arith, append-nil, append_assoc, length-append}
+-- It serves the clauses of `accept_all` and `take_next`.
+use Rattle.std.proofs.Common.{inl, inr, ◌≡◌, ℕ, zero, suc, ◌+◌, ◌≤◌, List, [], ◌∷◌, ◌++◌, length, Bool, Option, Some, None, Ok, Err, refl, ap, sym, ◌∙◌, subst, arith, append-nil}
+use Rattle.std.proofs.Common.{append_assoc, length-append}
 use Rattle.std.specs.Prelude.{◌≢◌, ◌⊎◌, map, true}
 use Rattle.bsc_turn.specs.declared.pass.Pass.{Pass}
-use Rattle.bsc_turn.specs.declared.view.Ended.{Ended as EndedCaller}
+use Rattle.bsc_turn.specs.declared.view.EndedCaller.{EndedCaller}
 use Rattle.bsc_turn.specs.Histories.{StartsWith}
 use Rattle.bsc_turn.specs.Passes.{drawn_list, newest_number, number_of, seen}
 use Rattle.bsc_hub.specs.declared.hub.Hub.{Hub}
@@ -28,7 +30,9 @@ use Rattle.bsc_serve.specs.Inner.{AllOurs, Draws, DrawsFor, Fared, Halted, Lacks
 use Rattle.bsc_serve.specs.Serving.{IsWithin, Loses, RoseBy}
 use Rattle.bsc_serve.specs.Tallies.{CountsUp, Remains, one_unless}
 use Rattle.bsc_serve.specs.Worlds.{ServeWorld}
-use Rattle.bsc_serve.proofs.Arrivals.{SpentStays, all_ended_then, asks_once, begun-append, callers-append, ends-append, fates_later, fates_then, grows_no_more, grows_still, jobs-append, links-append, loses_failed, loses_more, loses_none, loses_still, numbers-append, out_then, returned-append, rose_later, rose_then, unstarted-append}
+use Rattle.bsc_serve.proofs.Arrivals.{SpentStays, all_ended_then, asks_once, begun-append, callers-append, ends-append, fates_later, fates_then, grows_no_more, grows_still}
+use Rattle.bsc_serve.proofs.Arrivals.{jobs-append, links-append, loses_failed, loses_more, loses_none, loses_still, numbers-append, out_then, returned-append, rose_later}
+use Rattle.bsc_serve.proofs.Arrivals.{rose_then, unstarted-append}
 
 -- a loop that began at p and stands at m has drawn no fewer numbers, or all
 abbrev HasDrawn : Hub → Pass → Pass → Type 0
@@ -92,8 +96,18 @@ module _ {L C N : Type 0} where
   ours_then h (x ∷ xs) ys a b = (a.0, ours_then h xs ys a.1 b)
 
 module _ {L C N : Type 0} (begins : Option (List ℕ) → ℕ → N → Type 0) (talk : L → Option (List Said)) where
-  fate_before : (h : Hub) (terms : Terms) (p m q : Pass) (l : L) (f : Fate (SessionJob L C N)) → number_of m ≡ number_of p → StartsWith (seen m) (seen p) → HasDrawn h p m → DrawsFor h m q f → IsFate begins talk h terms m q l f → IsFate begins talk h terms p q l f
-  fate_before h terms p m q l (started j) number begins drawn d is = record { link = is.link; hub = is.hub; pass = split_before h p m q j.pass number begins (drawn_past h p m q drawn d) is.pass; limits = is.limits; turns = is.turns; journal = is.journal; is_recorded = is.is_recorded; policy = is.policy }
+  fate_before : (h : Hub) (terms : Terms) (p m q : Pass) (l : L) (f : Fate (SessionJob L C N)) → number_of m ≡ number_of p → StartsWith (seen m) (seen p) → HasDrawn h p m → DrawsFor h m q f
+      → IsFate begins talk h terms m q l f → IsFate begins talk h terms p q l f
+  fate_before h terms p m q l (started j) number begins drawn d is = record {
+    link = is.link;
+    hub = is.hub;
+    pass = split_before h p m q j.pass number begins (drawn_past h p m q drawn d) is.pass;
+    limits = is.limits;
+    turns = is.turns;
+    journal = is.journal;
+    is_recorded = is.is_recorded;
+    policy = is.policy;
+  }
   fate_before h terms p m q l (returned e) number begins drawn d is = is
   fate_before h terms p m q l spent number begins drawn d is = is
 
@@ -259,7 +273,8 @@ module _ {L C N : Type 0} (works : SessionJob L C N → SessionEnd L C N → Typ
   -- one arrived, whose job couldn't be made
   pub halted_cut : (h : Hub) (terms : Terms) (w m v : ServeWorld L C N) (tally : Tally) (x : L) (fault : LinkFault) (halt : Halt)
       → halt ≡ fault_halt fault → Taken works begins talk h terms w m tally → tally.remaining ≢ Some 0 → Leaves m.links v.links (Ok (Link x))
-      → Grows m.came v.came (x ∷ []) → Grows m.waits v.waits (WAIT_MS ∷ []) → m.quiets ≤ v.quiets → LacksRoom talk h terms.prefix x (giver m.pass (stock_of m) m.begun) (giver v.pass (stock_of v) v.begun) fault
+      → Grows m.came v.came (x ∷ []) → Grows m.waits v.waits (WAIT_MS ∷ []) → m.quiets ≤ v.quiets
+      → LacksRoom talk h terms.prefix x (giver m.pass (stock_of m) m.begun) (giver v.pass (stock_of v) v.begun) fault
       → Halted works begins talk h terms w v halt
   halted_cut h terms w m v tally x fault halt so t more_come lost new asked later r = record {
     events = t.events;

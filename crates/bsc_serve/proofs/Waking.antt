@@ -1,4 +1,5 @@
 -- Where the Stop stands, and that all are woken with that place.
+-- It serves the clauses of `serve_on` and `stop_first`.
 use Rattle.std.proofs.Common.{◌≡◌, ℕ, ◌+◌, List, [], ◌∷◌, ◌++◌, length, take, Bool, true, false, ◌||◌, cond, Option, Some, None, Ok, Err, refl, ap, sym, ◌∙◌, arith, append_assoc, true≢false}
 use Rattle.std.specs.Prelude.{Result, position}
 use Rattle.std.specs.List.{list_any, position_from}

@@ -10,7 +10,7 @@ use Rattle.bsc_history.specs.Entries.{stops}
 use Rattle.bsc_history.specs.Marks.{entries}
 use Rattle.bsc_history.specs.Replies.{is_stopped}
 use Rattle.bsc_turn.specs.declared.pass.Pass.{Pass}
-use Rattle.bsc_turn.specs.declared.view.Ended.{Ended as EndedCaller}
+use Rattle.bsc_turn.specs.declared.view.EndedCaller.{EndedCaller}
 use Rattle.bsc_turn.specs.Effects.{ended_of}
 use Rattle.bsc_turn.specs.Passes.{drawn_list, ended_callers, loads_made, newest_number, number_of, own_list, seen, view_of}
 use Rattle.bsc_hub.specs.declared.hub.Hub.{Hub}
@@ -23,10 +23,12 @@ use Rattle.bsc_edge.specs.declared.fault.LinkFault.TheVariants.{Failed as FaultF
 use Rattle.bsc_edge.specs.declared.said.Said.{Said}
 use Rattle.bsc_edge.specs.Told.{Grows, Stays}
 use Rattle.bsc_serve.specs.declared.bounds.TheConstants.{WAIT_MS}
+use Rattle.bsc_serve.specs.declared.accepted.Accepted.{Accepted}
+use Rattle.bsc_serve.specs.declared.accepted.Accepted.TheVariants.{All, Asked, Halted as HaltedBy}
 use Rattle.bsc_serve.specs.declared.halt.Halt.{Halt}
 use Rattle.bsc_serve.specs.declared.halt.Halt.TheVariants.{AcceptFault as HaltFault, JournalFault as HaltJournal, NoMemory as HaltMemory}
 use Rattle.bsc_serve.specs.declared.end.ServeEnd.{ServeEnd}
-use Rattle.bsc_serve.specs.declared.end.ServeEnd.TheVariants.{Done, StoppedBefore, AcceptFault, JournalFault, NoMemory}
+use Rattle.bsc_serve.specs.declared.end.ServeEnd.TheVariants.{Done, StoppedBefore, Requested, AcceptFault, JournalFault, NoMemory}
 use Rattle.bsc_session.specs.declared.job.SessionJob.{SessionJob}
 use Rattle.bsc_session.specs.declared.session_end.SessionEnd.{SessionEnd}
 use Rattle.bsc_serve.specs.Events.{AreFates, Event, OutAfter, arrived, begun_call, begun_of, callers_of, ended, ends_of, jobs_of, links_of, numbers_in, numbers_of, returned_of, unstarted_of}
@@ -246,10 +248,11 @@ module _ {L C N : Type 0} (works : SessionJob L C N → SessionEnd L C N → Typ
   TakesOn h terms w v tally None = Taken h terms w v tally
   TakesOn h terms w v tally (Some halt) = Halted h terms w v halt
 
-  -- All that are awaited have arrived, or the loop halted.
-  abbrev pub Accepts : Hub → Terms → ServeWorld L C N → ServeWorld L C N → Result ℕ Halt → Type 0
-  Accepts h terms w v (Ok unstarted) = Taken h terms w v (record { remaining = Some 0; unstarted = unstarted })
-  Accepts h terms w v (Err halt) = Halted h terms w v halt
+  -- All that are awaited have arrived, or the stop was asked for, or the loop halted.
+  abbrev pub Accepts : Hub → Terms → ServeWorld L C N → ServeWorld L C N → Accepted → Type 0
+  Accepts h terms w v (All unstarted) = Taken h terms w v (record { remaining = Some 0; unstarted = unstarted })
+  Accepts h terms w v (Asked unstarted) = (tally : Tally) × (tally.unstarted ≡ unstarted) × Taken h terms w v tally
+  Accepts h terms w v (HaltedBy halt) = Halted h terms w v halt
 
   -- From one pass and what is seen of the spawner to another: whatever has happened, it may have so since.
   abbrev pub GoesOn : Hub → Pass → Stock L C N → Pass → Stock L C N → Type 0
@@ -265,6 +268,20 @@ pub record Stopped (h : Hub) (m q : Pass) (r : Result (Told Counts) AlreadyStopp
   pub place : IfErr r (λ already. position stops (entries (seen q)) ≡ Some already.at)
   pub loaded : newest_number q ≡ newest_number m
 
+module _ {L C N : Type 0} (works : SessionJob L C N → SessionEnd L C N → Type 0) where
+  -- From one pass and what is seen of the spawner to another: the hub was stopped, and then the jobs that were out have ended, and
+  -- their callers were taken in.
+  pub record StopsFirst (h : Hub) (m : Pass) (s : Stock L C N) (q : Pass) (t : Stock L C N) (r : Result (Told Counts) AlreadyStopped) : Type 0 where
+    pub at_stop : Pass
+    pub stopped : Stopped h m at_stop r
+    pub ended : TakesIn works h at_stop s q t
+
+-- whether the loop ended as the stop was asked for
+abbrev pub has_asked : Accepted → Bool
+has_asked (All u) = false
+has_asked (Asked u) = true
+has_asked (HaltedBy halt) = false
+
 -- How serving ends that would end so, by why the Stop's line wasn't put, if it wasn't.
 abbrev pub lost_or : ServeEnd → Option LinkFault → ServeEnd
 lost_or end None = end
@@ -278,6 +295,14 @@ stop_end u (Err already) = StoppedBefore already.at u
 
 abbrev pub whole_end : ℕ → Result (Told Counts) AlreadyStopped → Option LinkFault → ServeEnd
 whole_end u stop lost = lost_or (stop_end u stop) lost
+
+-- How serving ends whose stop was asked for, where so many links have no job.
+abbrev pub request_end : ℕ → Result (Told Counts) AlreadyStopped → ServeEnd
+request_end u (Ok t) = Requested (Some t.said) u
+request_end u (Err already) = Requested None u
+
+abbrev pub asked_end : ℕ → Result (Told Counts) AlreadyStopped → Option LinkFault → ServeEnd
+asked_end u stop lost = lost_or (request_end u stop) lost
 
 -- How serving ends that halted.
 abbrev pub halt_end : Halt → Option LinkFault → ServeEnd

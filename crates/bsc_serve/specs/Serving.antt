@@ -8,7 +8,7 @@ use Rattle.bsc_history.specs.Entries.{stops}
 use Rattle.bsc_history.specs.Marks.{entries}
 use Rattle.bsc_history.specs.Replies.{is_stopped}
 use Rattle.bsc_turn.specs.declared.pass.Pass.{Pass}
-use Rattle.bsc_turn.specs.declared.view.Ended.{Ended as EndedCaller}
+use Rattle.bsc_turn.specs.declared.view.EndedCaller.{EndedCaller}
 use Rattle.bsc_turn.specs.Passes.{drawn_list, number_of, seen}
 use Rattle.bsc_hub.specs.Calls.{stop_made}
 use Rattle.bsc_hub.specs.Passing.{Passed, Went, found_history}
@@ -18,14 +18,15 @@ use Rattle.bsc_edge.specs.declared.fault.LinkFault.TheVariants.{Failed}
 use Rattle.bsc_edge.specs.declared.said.Said.{Said}
 use Rattle.bsc_edge.specs.Told.{Grows}
 use Rattle.bsc_desk.specs.Entries.{stop_entry}
-use Rattle.bsc_notes.specs.Notes.{HasLine, Note, Records, made}
+use Rattle.bsc_session.specs.Notes.Notes.{HasLine, Note, Records, made}
 use Rattle.bsc_serve.specs.declared.bounds.TheConstants.{WAIT_MS}
 use Rattle.bsc_serve.specs.declared.end.ServeEnd.{ServeEnd}
-use Rattle.bsc_serve.specs.declared.end.ServeEnd.TheVariants.{Done, StoppedBefore, AcceptFault, JournalFault, NoMemory}
+use Rattle.bsc_serve.specs.declared.end.ServeEnd.TheVariants.{Done, StoppedBefore, Requested, AcceptFault, JournalFault, NoMemory}
 use Rattle.bsc_session.specs.declared.job.SessionJob.{SessionJob}
 use Rattle.bsc_session.specs.declared.session_end.SessionEnd.{SessionEnd}
 use Rattle.bsc_serve.specs.Events.{AllStand, AreFates, Event, OutAfter, begun_call, begun_of, callers_of, ends_of, jobs_of, links_of, numbers_of, returned_of, unstarted_of}
 use Rattle.bsc_serve.specs.Fates.{IsTurnedAway, IsUnused}
+use Rattle.bsc_serve.specs.Tallies.{CountsUp}
 use Rattle.bsc_serve.specs.Terms.{Terms}
 use Rattle.bsc_serve.specs.Worlds.{ServedWorld}
 
@@ -90,6 +91,7 @@ module _ {L : Type 0} where
 abbrev pub IsCutShort : ServeEnd → Type 0
 IsCutShort (Done c u) = ⊥
 IsCutShort (StoppedBefore at u) = ⊥
+IsCutShort (Requested c u) = ⊥
 IsCutShort end = ⊤
 
 -- Each time that the acceptor was asked a link came, or none within the wait; or one time more it was asked, and that cut serving
@@ -109,6 +111,11 @@ StopAnswers q (Ok t) =
     (t.said ≡ counts (take t.at (entries (seen q)))) × (is_stopped (take t.at (entries (seen q))) ≡ false)
 StopAnswers q (Err already) = position stops (entries (seen q)) ≡ Some already.at
 
+-- What an end that was asked for says of the stop: its counts, or that it was made before.
+abbrev pub SaysStop : Option Counts → Result (Told Counts) AlreadyStopped → Type 0
+SaysStop (Some c) stop = (at : ℕ) × (stop ≡ Ok (record { at = at; said = c }))
+SaysStop None stop = (at : ℕ) × (stop ≡ Err (record { at = at }))
+
 -- What a caller notes of its stop of the hub: the Stop that it made, with its place.
 abbrev pub stop_notes : ℕ → Result (Told Counts) AlreadyStopped → List Note
 stop_notes caller (Ok t) = made t.at (stop_entry caller t.said) ∷ []
@@ -118,7 +125,8 @@ module _ {L C N : Type 0} where
   -- How serving ends, by what happened, the link that was cut, the jobs that were out when the hub was stopped, what the stop
   -- answered, and why its line wasn't put, if it wasn't. A journal failed; or none did, and then: as many links arrived as were
   -- awaited, no job was out, the Stop's line was put, and the end says how many of the links have no job, and the counts of the
-  -- stop or where the earlier one stands; or it was cut short.
+  -- stop or where the earlier one stands; or the stop was asked for, whatever had arrived and was out, the Stop's line was put, and
+  -- the end says the same, of the links up to the greatest u64; or it was cut short.
   abbrev pub EndsSo : Option ℕ → List (Event L C N) → Option (Cut L) → List (SessionJob L C N) → Result (Told Counts) AlreadyStopped
       → Option LinkFault → ServeEnd → Type 0
   EndsSo awaited events cut still stop lost (Done c u) =
@@ -126,6 +134,7 @@ module _ {L C N : Type 0} where
       × ((at : ℕ) × (stop ≡ Ok (record { at = at; said = c }))) × (lost ≡ None)
   EndsSo awaited events cut still stop lost (StoppedBefore at u) =
       (awaited ≡ Some (length (links_of events))) × (still ≡ []) × (u ≡ unstarted_of events) × (stop ≡ Err (record { at = at }))
+  EndsSo awaited events cut still stop lost (Requested c u) = CountsUp u (unstarted_of events) × SaysStop c stop × (lost ≡ None)
   EndsSo awaited events cut still stop lost AcceptFault = lost ≡ None
   EndsSo awaited events cut still stop lost JournalFault = JournalFailed cut lost
   EndsSo awaited events cut still stop lost NoMemory = JournalFailed cut lost → ⊥

@@ -1,21 +1,26 @@
 //! The loop that takes links.
-ghost use Rattle.std.specs.Prelude.{◌≡◌, ◌≤◌, ◌≢◌, ◌<◌, ◌^◌, ℕ, [], Some, option_map};
+ghost use Rattle.std.specs.Prelude.{◌≡◌, ◌≤◌, ◌≢◌, ◌<◌, ◌^◌, ◌∷◌, ℕ, [], Some, option_map};
 ghost use Rattle.std.specs.Arc.{arc_value};
 ghost use Rattle.bsc_outside.specs.Faults.{HasRisen};
+ghost use Rattle.bsc_turn.specs.Passes.{own_list};
 ghost use Rattle.bsc_hub.specs.Passing.{IsCaller};
+ghost use Rattle.bsc_serve.specs.declared.accepted.Accepted.{Accepted};
 ghost use Rattle.bsc_serve.specs.declared.halt.Halt.{Halt};
 ghost use Rattle.bsc_edge.specs.declared.fault.LinkFault.{LinkFault};
-ghost use Rattle.bsc_edge.specs.Told.{Stays};
+ghost use Rattle.bsc_edge.specs.Told.{Grows, Stays};
 ghost use Rattle.bsc_session.specs.Jobs.{Worked, policy_of};
-ghost use Rattle.bsc_serve.specs.Inner.{Accepts, TakesOn, Taken, fault_halt};
+ghost use Rattle.bsc_serve.specs.Asking.{Looked, asking_by};
+ghost use Rattle.bsc_serve.specs.Inner.{Accepts, TakesOn, Taken, fault_halt, has_asked};
 ghost use Rattle.bsc_serve.specs.Terms.{all_terms};
 ghost use Rattle.bsc_serve.specs.Worlds.{ServeWorld};
 
+use crate::accepted::Accepted;
 use crate::bounds::WAIT_MS;
 use crate::halt::Halt;
 use crate::parts::ServingParts;
 use crate::served::ServedHub;
 use crate::starting::start_session;
+use crate::stop_asker::StopAsker;
 use crate::taking_in::take_ended;
 use crate::tally::Tally;
 use bsc_edge::{Acceptor, Arrived, Clock, Journals, Link, LinkFault, Spawner};
@@ -85,6 +90,7 @@ fn take_next<
           out = P.out parts.new.spawner;
           unstarted = P.faults parts.new.spawner;
         }) tally.new result }
+    ensures asked { Grows (A.waits parts.old.acceptor) (A.waits parts.new.acceptor) (WAIT_MS ∷ []) }
     ensures bound { Stays (A.bound parts.old.acceptor) (A.bound parts.new.acceptor) }
     ensures later { A.faults parts.old.acceptor ≤ A.faults parts.new.acceptor }
     ensures failed { result ≡ Some Halt.AcceptFault → HasRisen (A.faults parts.old.acceptor) (A.faults parts.new.acceptor) }
@@ -105,8 +111,8 @@ fn take_next<
     }
 }
 
-/// Takes links until as many have arrived as are asked for, and says how many have no session. Before each it takes in the
-/// callers of the sessions that have ended.
+/// Takes links until as many have arrived as are asked for, the stop is asked for, or something halts it. Before
+/// each it looks whether the stop is asked for, and takes in the callers of the sessions that have ended.
 pub(crate) fn accept_all<
     R: Wait,
     C: Clock + Drop,
@@ -115,11 +121,13 @@ pub(crate) fn accept_all<
     N: Sink + Drop,
     J: Journals<N>,
     P: Spawner<SessionJob<L, C, N>>,
+    Q: StopAsker,
 >(
     served: ServedHub<'_, R>,
     pass: &mut Pass,
     parts: &mut ServingParts<A, C, P, J>,
-) -> Result<u64, Halt>
+    asker: &mut Q,
+) -> Accepted
     requires can { P.can_start parts.old.spawner }
     requires pass { IsCaller (arc_value served.hub.now) pass.old }
     requires none { P.out parts.old.spawner ≡ [] }
@@ -150,22 +158,27 @@ pub(crate) fn accept_all<
           out = P.out parts.new.spawner;
           unstarted = P.faults parts.new.spawner;
         }) result }
+    ensures looked { Looked (own_list pass.old) (A.waits parts.old.acceptor) (A.waits parts.new.acceptor) (asking_by Q.looks Q.asked Q.endings asker.old)
+        (asking_by Q.looks Q.asked Q.endings asker.new) (has_asked result) }
     ensures fits { (n : ℕ) → served.entry.terms.sessions ≡ Some n → n < 2 ^ 64 }
     ensures bound { Stays (A.bound parts.old.acceptor) (A.bound parts.new.acceptor) }
     ensures later { A.faults parts.old.acceptor ≤ A.faults parts.new.acceptor }
-    ensures failed { result ≡ Err Halt.AcceptFault → HasRisen (A.faults parts.old.acceptor) (A.faults parts.new.acceptor) }
-    ensures unbegun { result ≡ Err Halt.JournalFault → HasRisen (J.faults parts.old.journals) (J.faults parts.new.journals) }
+    ensures failed { result ≡ Accepted.Halted Halt.AcceptFault → HasRisen (A.faults parts.old.acceptor) (A.faults parts.new.acceptor) }
+    ensures unbegun { result ≡ Accepted.Halted Halt.JournalFault → HasRisen (J.faults parts.old.journals) (J.faults parts.new.journals) }
     ensures journals_later { J.faults parts.old.journals ≤ J.faults parts.new.journals }
 {
     let rt = served.rt;
     let mut tally = Tally::of(served.terms.sessions);
     for _ in rt.forever() {
         if tally.is_full() {
-            return Ok(tally.unstarted);
+            return Accepted::All(tally.unstarted);
+        }
+        if asker.asks(&*pass) {
+            return Accepted::Asked(tally.unstarted);
         }
         take_ended::<R, C, L, N, J, P>(rt, served.hub, pass, &mut parts.spawner, false);
         if let Some(halt) = take_next(served, pass, parts, &mut tally) {
-            return Err(halt);
+            return Accepted::Halted(halt);
         }
     }
     unreachable!()

@@ -3,6 +3,7 @@
 ghost use Rattle.std.specs.Prelude.{◌≡◌};
 ghost use Rattle.bsc_session.specs.Jobs.{Worked};
 ghost use Rattle.bsc_serve.specs.Alone.{AllButStopAreOfJobs, EntriesAreOfJobs, JobsAreApart, JobsEndAtLast, JobsHaveEnded, NothingBehindStop, SeenAreOfJobs, ServingIsAlone};
+ghost use Rattle.bsc_serve.specs.Asking.{RequestsNeedAskers};
 ghost use Rattle.bsc_serve.specs.declared.bounds.TheConstants.{SESSIONS, WAIT_MS};
 
 use bsc_edge::{Clock, Journals, Link};
@@ -48,6 +49,11 @@ pub fn nothing_behind_stop<L: Link, C: Clock, N: Sink, J: Journals<N>>()
 /// No two jobs of a hub that was served have passes of one number.
 pub fn jobs_are_apart<L: Link, C: Clock, N: Sink, J: Journals<N>>()
     ensures { JobsAreApart (Worked L.talk L.faults L.notices C.readings N.held N.faults) J.begins L.talk }
+{}
+
+/// Where the count of an asker stands at 0, as that of one that never asks, no end says that the stop was asked for.
+pub fn requests_need_askers()
+    ensures { RequestsNeedAskers }
 {}
 
 /// The places that the program has are for 2,048 sessions at once.

@@ -2,33 +2,35 @@
 ghost use Rattle.std.specs.Prelude.{◌≡◌, ◌≤◌, ◌⊎◌, ◌∷◌, [], IsErr, Err, Some, option_map};
 ghost use Rattle.std.specs.Arc.{arc_value};
 ghost use Rattle.bsc_outside.specs.Faults.{HasRisen};
-ghost use Rattle.bsc_turn.specs.Passes.{number_of};
+ghost use Rattle.bsc_turn.specs.Passes.{number_of, own_list};
 ghost use Rattle.bsc_hub.specs.Passing.{IsCaller};
 ghost use Rattle.bsc_desk.specs.Entries.{stop_entry};
 ghost use Rattle.bsc_serve.specs.declared.end.ServeEnd.{ServeEnd};
 ghost use Rattle.bsc_serve.specs.declared.halt.Halt.{Halt};
 ghost use Rattle.bsc_edge.specs.declared.fault.LinkFault.{LinkFault};
 ghost use Rattle.bsc_edge.specs.Told.{Stays, fault_in};
-ghost use Rattle.bsc_notes.specs.Notes.{HasLine, Records, made as made_note};
+ghost use Rattle.bsc_session.specs.Notes.Notes.{HasLine, Records, made as made_note};
 ghost use Rattle.bsc_session.specs.Jobs.{Worked, policy_of};
-ghost use Rattle.bsc_serve.specs.Inner.{Stopped, halt_end, lost_or, stop_end, whole_end};
+ghost use Rattle.bsc_serve.specs.Asking.{AskedSo, asking_by};
+ghost use Rattle.bsc_serve.specs.Inner.{AllOurs, Stopped, StopsFirst, asked_end, halt_end, lost_or, request_end, stop_end, whole_end};
 ghost use Rattle.bsc_serve.specs.Serving.{Serving, stop_notes};
 ghost use Rattle.bsc_serve.specs.Terms.{all_terms};
 ghost use Rattle.bsc_serve.specs.Waking.{WakesAll, stop_place};
 
+use crate::accepted::Accepted;
 use crate::accepting::accept_all;
 use crate::end::ServeEnd;
 use crate::halt::Halt;
 use crate::parts::ServingParts;
 use crate::served::ServedHub;
+use crate::stop_asker::StopAsker;
 use crate::stop_told::StopTold;
 use crate::taking_in::{await_all, take_ended};
 use bsc_edge::{Acceptor, Clock, Journals, Link, LinkFault, Spawner};
 use bsc_history::{AlreadyStopped, Counts};
 use bsc_hub::{Hub, Pass, Told};
-use bsc_notes::{Journal, Made, Noted};
 use bsc_outside::Sink;
-use bsc_session::SessionJob;
+use bsc_session::{Journal, Made, Noted, SessionJob};
 use std::alloc::Global;
 use std::sync::Wait;
 
@@ -144,6 +146,29 @@ fn done(unstarted: u64, stopped: StopTold) -> ServeEnd
     lost_or(stop_end(unstarted, stopped.answer), stopped.lost)
 }
 
+/// How serving ends whose stop was asked for, by what the stop answered, where its line was put.
+fn request_end(unstarted: u64, answer: Result<Told<Counts>, AlreadyStopped>) -> ServeEnd
+    ensures { result ≡ request_end unstarted answer }
+{
+    match answer {
+        Ok(told) => ServeEnd::Requested {
+            counts: Some(told.said),
+            unstarted,
+        },
+        Err(_) => ServeEnd::Requested {
+            counts: None,
+            unstarted,
+        },
+    }
+}
+
+/// How serving ends whose stop was asked for.
+fn asked_end(unstarted: u64, stopped: StopTold) -> ServeEnd
+    ensures { result ≡ asked_end unstarted stopped.answer stopped.lost }
+{
+    lost_or(request_end(unstarted, stopped.answer), stopped.lost)
+}
+
 /// How serving ends that halted.
 fn end_of(halt: Halt, lost: Option<LinkFault>) -> ServeEnd
     ensures { result ≡ halt_end halt lost }
@@ -155,15 +180,8 @@ fn end_of(halt: Halt, lost: Option<LinkFault>) -> ServeEnd
     }
 }
 
-/// Serves a hub: takes links until as many have arrived as are asked for, for ever where none is asked for, and gives
-/// each a session in a job of its own, with a pass split from this one, the journal of that pass's number under the prefix,
-/// and the policy. When a session has ended it joins its pass to this one. Once all have come and all sessions have ended,
-/// it stops the hub, and puts the line of the Stop into the own journal. A link that gets no session is closed with 1001.
-/// Where the acceptor fails, a journal can't be begun or memory runs out, it stops the hub first, which ends the sessions,
-/// and then waits for them and joins their passes. Once the hub is stopped, the wait of each link that came ends, so that no
-/// session learns of the Stop only as its wait is over. Without a prefix and a policy sessions make no lines. Jobs that the spawner
-/// had out before are awaited at first.
-pub fn serve_on<
+/// Stops the hub while sessions may be out, wakes all links, and then waits for the sessions and takes in their callers.
+fn stop_first<
     R: Wait,
     C: Clock + Drop,
     L: Link + Drop,
@@ -176,6 +194,61 @@ pub fn serve_on<
     pass: &mut Pass,
     own: &mut N,
     parts: &mut ServingParts<A, C, P, J>,
+) -> StopTold
+    requires pass { IsCaller (arc_value served.hub.now) pass.old }
+    requires ours { AllOurs (arc_value served.hub.now) (P.out parts.old.spawner) }
+    ensures again { P.can_start parts.old.spawner → P.can_start parts.new.spawner }
+    ensures stops { StopsFirst (Worked L.talk L.faults L.notices C.readings N.held N.faults) (arc_value served.entry.hub.now) pass.old
+        (record { jobs = P.jobs parts.old.spawner; given_back = P.ends parts.old.spawner; out = P.out parts.old.spawner; unstarted = P.faults parts.old.spawner })
+        pass.new
+        (record { jobs = P.jobs parts.new.spawner; given_back = P.ends parts.new.spawner; out = P.out parts.new.spawner; unstarted = P.faults parts.new.spawner })
+        result.answer }
+    ensures caller { IsCaller (arc_value served.entry.hub.now) pass.new }
+    ensures none { P.out parts.new.spawner ≡ [] }
+    ensures records { Records (N.held own.old) (N.held own.new) (stop_notes (number_of pass.old) result.answer) result.lost }
+    ensures has_line { HasLine (stop_notes (number_of pass.old) result.answer) result.lost }
+    ensures unput { result.lost ≡ Some LinkFault.Failed → HasRisen (N.faults own.old) (N.faults own.new) }
+    ensures own_later { N.faults own.old ≤ N.faults own.new }
+    ensures woken { WakesAll pass.new (A.stops parts.new.acceptor) }
+    ensures bound { A.bound parts.new.acceptor ≡ A.bound parts.old.acceptor }
+    ensures left { A.left parts.new.acceptor ≡ A.left parts.old.acceptor }
+    ensures came { A.came parts.new.acceptor ≡ A.came parts.old.acceptor }
+    ensures waits { A.waits parts.new.acceptor ≡ A.waits parts.old.acceptor }
+    ensures quiets { A.quiets parts.new.acceptor ≡ A.quiets parts.old.acceptor }
+    ensures same { A.faults parts.new.acceptor ≡ A.faults parts.old.acceptor }
+    ensures journals { parts.new.journals ≡ parts.old.journals }
+{
+    let hub: &Hub = served.hub;
+    let told = finish(served.rt, served.alloc, hub, pass, own);
+    parts.acceptor.wake_all(place_of(&told.answer));
+    take_ended::<R, C, L, N, J, P>(served.rt, hub, pass, &mut parts.spawner, true);
+    told
+}
+
+/// Serves a hub: takes links until as many have arrived as are asked for, for ever where none is asked for, and gives
+/// each a session in a job of its own, with a pass split from this one, the journal of that pass's number under the prefix,
+/// and the policy. When a session has ended it joins its pass to this one. Once all have come and all sessions have ended,
+/// it stops the hub, and puts the line of the Stop into the own journal. A link that gets no session is closed with 1001.
+/// Where the stop is asked for, the acceptor fails, a journal can't be begun or memory runs out, it takes no more links and stops
+/// the hub first, which ends the sessions, and then waits for them and joins their passes. Whether the stop is asked for it looks
+/// before each time that it asks for a link, so each 20 ms at least. Once the hub is stopped, the wait of each link that came ends, so that no
+/// session learns of the Stop only as its wait is over. Without a prefix and a policy sessions make no lines. Jobs that the spawner
+/// had out before are awaited at first.
+pub fn serve_on<
+    R: Wait,
+    C: Clock + Drop,
+    L: Link + Drop,
+    A: Acceptor<L>,
+    N: Sink + Drop,
+    J: Journals<N>,
+    P: Spawner<SessionJob<L, C, N>>,
+    Q: StopAsker,
+>(
+    served: ServedHub<'_, R>,
+    pass: &mut Pass,
+    own: &mut N,
+    parts: &mut ServingParts<A, C, P, J>,
+    asker: &mut Q,
 ) -> ServeEnd
     requires can { P.can_start parts.old.spawner }
     requires pass { IsCaller (arc_value served.hub.now) pass.old }
@@ -217,6 +290,11 @@ pub fn serve_on<
           };
         }) result }
 
+    // The end that says so comes only where the stop was asked for: the acceptor wasn't asked for a link again then, and the own pass
+    // had entered nothing more yet, so the Stop comes behind.
+    ensures asked { AskedSo (own_list pass.old) (A.waits parts.old.acceptor) (A.waits parts.new.acceptor) (asking_by Q.looks Q.asked Q.endings asker.old)
+        (asking_by Q.looks Q.asked Q.endings asker.new) result }
+
     // The pass is still one of the hub.
     ensures caller { IsCaller (arc_value served.entry.hub.now) pass.new }
 
@@ -237,18 +315,19 @@ pub fn serve_on<
     ensures own_later { N.faults own.old ≤ N.faults own.new }
 {
     await_all(served.rt, &mut parts.spawner);
-    match accept_all(served, pass, parts) {
-        Ok(unstarted) => {
+    match accept_all(served, pass, parts, asker) {
+        Accepted::All(unstarted) => {
             take_ended::<R, C, L, N, J, P>(served.rt, served.hub, pass, &mut parts.spawner, true);
             let stopped = finish(served.rt, served.alloc, served.hub, pass, own);
             parts.acceptor.wake_all(place_of(&stopped.answer));
             done(unstarted, stopped)
         }
-        Err(halt) => {
-            let hub: &Hub = served.hub;
-            let told = finish(served.rt, served.alloc, hub, pass, own);
-            parts.acceptor.wake_all(place_of(&told.answer));
-            take_ended::<R, C, L, N, J, P>(served.rt, hub, pass, &mut parts.spawner, true);
+        Accepted::Asked(unstarted) => {
+            let asked = stop_first::<R, C, L, A, N, J, P>(served, pass, own, parts);
+            asked_end(unstarted, asked)
+        }
+        Accepted::Halted(halt) => {
+            let told = stop_first::<R, C, L, A, N, J, P>(served, pass, own, parts);
             end_of(halt, told.lost)
         }
     }

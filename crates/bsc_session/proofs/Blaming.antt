@@ -1,4 +1,5 @@
 -- A line that wasn't put names the end of the session before all else.
+-- It serves the clauses of `causes_are_exact` and `serve`.
 use Rattle.std.proofs.Common.{◌≡◌, ◌↔◌, ℕ, Bool, true, false, refl, Option, Some, None, Result, Ok, Err}
 use Rattle.std.specs.Prelude.{⊤}
 use Rattle.bsc_history.specs.declared.ending.End.{End}
@@ -132,7 +133,8 @@ journal_row d w (Some f) None journal failed clear = (λ h. journal ((journal_st
 journal_row d w (Some f) (Some g) journal failed clear = (let k : Some g ≡ None = clear f refl in cc)
 
 -- and it is want of memory where a line found none
-pub memory_row : (d : Option End) (w : Why) (l left : Option LinkFault) → (l ≡ Some MemoryFault → w ≡ NoMemory) → ((f : LinkFault) → l ≡ Some f → left ≡ None) → first_lost l left ≡ Some MemoryFault → named_lost left (named d w) ≡ NoMemory
+pub memory_row : (d : Option End) (w : Why) (l left : Option LinkFault) → (l ≡ Some MemoryFault → w ≡ NoMemory) → ((f : LinkFault) → l ≡ Some f → left ≡ None)
+    → first_lost l left ≡ Some MemoryFault → named_lost left (named d w) ≡ NoMemory
 memory_row d w None None memory clear h = cc
 memory_row d w None (Some Failed) memory clear h = cc
 memory_row d w None (Some MemoryFault) memory clear h = refl

@@ -1,5 +1,6 @@
 -- How a session stops: each way with what the link gave last, whether there was memory to judge it, what the hub answered
 -- last, and the fault that came last.
+-- It serves the clauses of `causes_are_exact` and `serve`.
 use Rattle.std.proofs.Common.{◌≡◌, ◌⊎◌, ◌↔◌, ℕ, Bool, true, false, is_some, is_none, ◌&&◌, List, [], refl, ap, sym, ◌∙◌, inl, inr, Option, Some, None, Result, Ok, Err}
 use Rattle.bsc_history.specs.declared.ending.End.{End}
 use Rattle.bsc_history.specs.declared.looks.Look.{Look}
@@ -109,16 +110,20 @@ joined_refused : (at : ℕ) (l : List Look) (c : ℕ) (x : Option ℕ) (r : Refu
 joined_refused at l c x r h = (let k = h.2 in cc)
 
 -- a message that was answered with no fault
-left_ends : (x : List ℕ) (v : Terms) (s : Standing) (st : Step) (a : Option Answer) (stop : Stop) → IsTaken a → AnswerFits st a → closes (cause_of st a) (closing_in (last_wanted v s st a)) ≡ Some stop → is_some a ≡ calls st
+left_ends : (x : List ℕ) (v : Terms) (s : Standing) (st : Step) (a : Option Answer) (stop : Stop) → IsTaken a → AnswerFits st a
+    → closes (cause_of st a) (closing_in (last_wanted v s st a)) ≡ Some stop → is_some a ≡ calls st
     → Ends (Some (Ok (Message x))) true a None stop.why
-left_ends x v s (Ask who) (Some (replies at l (RefusedReply r))) stop h fits is calls = rw (closes_why (Refused r) (closing_in (last_wanted v s (Ask who) (Some (replies at l (RefusedReply r))))) stop is) (refused x at l r)
-left_ends x v s (Ask who) (Some (replies at l (Joined c y))) stop h fits is calls = rw (closes_why PeerLeft (closing_in (last_wanted v s (Ask who) (Some (replies at l (Joined c y))))) stop is) (left x (Some (replies at l (Joined c y))) refl (joined_refused at l c y))
+left_ends x v s (Ask who) (Some (replies at l (RefusedReply r))) stop h fits is calls =
+    rw (closes_why (Refused r) (closing_in (last_wanted v s (Ask who) (Some (replies at l (RefusedReply r))))) stop is) (refused x at l r)
+left_ends x v s (Ask who) (Some (replies at l (Joined c y))) stop h fits is calls =
+    rw (closes_why PeerLeft (closing_in (last_wanted v s (Ask who) (Some (replies at l (Joined c y))))) stop is) (left x (Some (replies at l (Joined c y))) refl (joined_refused at l c y))
 left_ends x v s (Ask who) a stop h fits is calls = cc
 left_ends x v s Up a stop h fits is calls = cc
 left_ends x v s st None stop h fits is calls = rw (closes_why PeerLeft (closing_in (last_wanted v s st None)) stop is) (left x None refl none_refused)
 left_ends x v s st (Some a) stop h fits is calls = cc
 
-answered_ends : (x : List ℕ) (v : Terms) (s : Standing) (st : Step) (a : Option Answer) (fault : Option LinkFault) (stop : Stop) → is_some a ≡ calls st → AnswerFits st a → HasPut (octets_in (last_wanted v s st a)) fault
+answered_ends : (x : List ℕ) (v : Terms) (s : Standing) (st : Step) (a : Option Answer) (fault : Option LinkFault) (stop : Stop) → is_some a ≡ calls st → AnswerFits st a
+    → HasPut (octets_in (last_wanted v s st a)) fault
     → first_of (stop_by a) (first_of (stop_if fault) (closes (cause_of st a) (closing_in (last_wanted v s st a)))) ≡ Some stop → Ends (Some (Ok (Message x))) true a fault stop.why
 answered_ends x v s st (Some worn) fault stop calls fits put is =
     let k : HasPut [] fault = rw (nothing_put v s st worn (inl refl) calls) at put in
@@ -129,7 +134,8 @@ answered_ends x v s st (Some no_memory) fault stop calls fits put is =
 answered_ends x v s st a None stop calls fits put is = left_ends x v s st a stop refl fits is calls
 answered_ends x v s st a (Some f) stop calls fits put is = rw (why_is (stop_at f) stop is) (failed_ends x a f refl)
 
-message_ends : (x : List ℕ) (v : Terms) (s : Standing) (st : Step) (d : Option Denial) (a : Option Answer) (fault : Option LinkFault) (stop : Stop) → is_some a ≡ is_none d && calls st → AnswerFits st a → HasPut (octets_in (last_wanted v s st a)) fault
+message_ends : (x : List ℕ) (v : Terms) (s : Standing) (st : Step) (d : Option Denial) (a : Option Answer) (fault : Option LinkFault) (stop : Stop) → is_some a ≡ is_none d && calls st
+    → AnswerFits st a → HasPut (octets_in (last_wanted v s st a)) fault
     → stop_message v s st d a None fault ≡ Some stop → Ends (Some (Ok (Message x))) true a fault stop.why
 message_ends x v s st None a fault stop calls fits put is = answered_ends x v s st a fault stop calls fits put is
 message_ends x v s st (Some d) (Some a) fault stop calls fits put is = cc
@@ -138,14 +144,16 @@ message_ends x v s Up (Some d) None fault stop calls fits put is = (let k : None
 message_ends x v s st (Some d) None fault stop calls fits put is = answered_ends x v s st None fault stop refl fits put is
 
 judged_ends : (x : List ℕ) (v : Terms) (s0 s : Standing) (now : ℕ) (judged : Bool) (d : Option Denial) (a : Option Answer) (fault : Option LinkFault) (stop : Stop)
-    → is_some a ≡ is_none d && calls (heard_step v s0 now judged (Ok (Message x))) → AnswerFits (heard_step v s0 now judged (Ok (Message x))) a → HasPut (octets_in (last_wanted v s (heard_step v s0 now judged (Ok (Message x))) a)) fault
+    → is_some a ≡ is_none d && calls (heard_step v s0 now judged (Ok (Message x))) → AnswerFits (heard_step v s0 now judged (Ok (Message x))) a
+    → HasPut (octets_in (last_wanted v s (heard_step v s0 now judged (Ok (Message x))) a)) fault
     → stop_judged judged (stop_message v s (heard_step v s0 now judged (Ok (Message x))) d a None fault) ≡ Some stop
     → Ends (Some (Ok (Message x))) judged a fault stop.why
 judged_ends x v s0 s now true d a fault stop calls fits put is = message_ends x v s (heard_step v s0 now true (Ok (Message x))) d a fault stop calls fits put is
 judged_ends x v s0 s now false d a fault stop calls fits put is = rw (no_answer d a calls, no_put fault put, why_is _ stop is) (unjudged x)
 
 given_ends : (v : Terms) (s0 s : Standing) (now : ℕ) (judged : Bool) (given : Result Incoming LinkFault) (d : Option Denial) (a : Option Answer) (fault : Option LinkFault) (stop : Stop)
-    → LacksAtPass v s0 judged given → is_some a ≡ is_none d && calls (heard_step v s0 now judged given) → AnswerFits (heard_step v s0 now judged given) a → HasPut (octets_in (last_wanted v s (heard_step v s0 now judged given) a)) fault
+    → LacksAtPass v s0 judged given → is_some a ≡ is_none d && calls (heard_step v s0 now judged given) → AnswerFits (heard_step v s0 now judged given) a
+    → HasPut (octets_in (last_wanted v s (heard_step v s0 now judged given) a)) fault
     → stop_given given (stop_judged judged (stop_message v s (heard_step v s0 now judged given) d a None fault)) ≡ Some stop
     → Ends (Some given) judged a (fault_at given fault) stop.why
 given_ends v s0 s now true (Err f) d a fault stop lacks calls fits put is = rw (no_answer d a calls, why_is (stop_at f) stop is) (unheard_ends f)
@@ -165,10 +173,13 @@ abbrev pub lost_after : Option Hearing → Option LinkFault
 lost_after None = None
 lost_after (Some h) = h.lost
 
-pub turn_ends : (v : Terms) (s : Standing) (o : Opening) (h : Option Hearing) (stop : Stop) → o.lost ≡ None → lost_after h ≡ None → IsTurn v s (record { opening = o; hearing = h }) → stop_in v s (record { opening = o; hearing = h }) ≡ Some stop
+pub turn_ends : (v : Terms) (s : Standing) (o : Opening) (h : Option Hearing) (stop : Stop) → o.lost ≡ None → lost_after h ≡ None → IsTurn v s (record { opening = o; hearing = h })
+    → stop_in v s (record { opening = o; hearing = h }) ≡ Some stop
     → Ends (given_in h) (judged_in h) (answer_in h) (hearing_fault o.fault h) stop.why
-turn_ends v s o None stop first later is stops = opening_ends s.conn (closing_in (wanted_at v s o.reading)) v (ticked s o.reading) o.met o.reading (put_first v s o) o.fault stop (fault_put v s o is.opening) (none_put v s o is.opening) (rw first at (sym (alone (stop_before v s o)) ∙ stops))
-turn_ends v s o (Some h) stop first later is stops = given_ends v (opened s o) (heard v (opened s o) o.reading h.judged h.given) o.reading h.judged h.given (denial_in v (opened s o) o.reading h) h.answer h.fault stop is.hearing.memory is.hearing.calls is.hearing.fits (rw later at is.hearing.cause)
+turn_ends v s o None stop first later is stops = opening_ends s.conn (closing_in (wanted_at v s o.reading)) v (ticked s o.reading) o.met o.reading (put_first v s o) o.fault stop
+    (fault_put v s o is.opening) (none_put v s o is.opening) (rw first at (sym (alone (stop_before v s o)) ∙ stops))
+turn_ends v s o (Some h) stop first later is stops = given_ends v (opened s o) (heard v (opened s o) o.reading h.judged h.given) o.reading h.judged h.given
+    (denial_in v (opened s o) o.reading h) h.answer h.fault stop is.hearing.memory is.hearing.calls is.hearing.fits (rw later at is.hearing.cause)
     (rw later at (after_none (stop_before v s o) _ stop (no_stop (stop_before v s o) is.heard) stops))
 
 -- ---- the rows
@@ -197,7 +208,8 @@ row_worn e = (λ h. cc, λ h. cc)
 reply_is : (i j : ℕ) (l k : List Look) (p q : Reply) → Some (replies i l p) ≡ Some (replies j k q) → p ≡ q
 reply_is i j l k p q h = cc
 
-pub row_refused : {g : Option (Result Incoming LinkFault)} {j : Bool} {a : Option Answer} {f : Option LinkFault} {w : Why} → (r : Refusal) → Ends g j a f w → w ≡ Refused r ↔ (IsHubRefusal a r × (f ≡ None))
+pub row_refused : {g : Option (Result Incoming LinkFault)} {j : Bool} {a : Option Answer} {f : Option LinkFault} {w : Why} → (r : Refusal) → Ends g j a f w
+    → w ≡ Refused r ↔ (IsHubRefusal a r × (f ≡ None))
 row_refused r (refused x at l k) = (λ h. ((at, l, cc), refl), λ h. (let e = reply_is at h.0.0 l h.0.1 (RefusedReply k) (RefusedReply r) h.0.2 in cc))
 row_refused r (failed x a t) = (λ h. ((0, [], cc), cc), λ h. (let e = h.1 in cc))
 row_refused r (failed_memory x a t) = (λ h. ((0, [], cc), cc), λ h. (let e = h.1 in cc))

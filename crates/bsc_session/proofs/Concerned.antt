@@ -1,4 +1,5 @@
 -- A reply wakes exactly whom it concerns.
+-- It serves the clauses of `notices_are_the_sessions` and `wakes_whom_it_concerns`.
 use Rattle.std.proofs.Common.{◌≡◌, ◌==◌, ◌||◌, ℕ, Bool, true, false, if◌then◌else◌, List, [], ◌∷◌, ◌++◌, map, Option, Some, None, is_some, refl, ap, sym, ◌∙◌, append-nil}
 use Rattle.std.specs.List.{list_any}
 use Rattle.bsc_history.specs.declared.ending.End.{End}

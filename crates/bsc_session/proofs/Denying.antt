@@ -1,4 +1,5 @@
 -- When a policy ends a session: a device asked to join that isn't admitted.
+-- It serves the clauses of `causes_are_exact` and `serve`.
 use Rattle.std.proofs.Common.{◌≡◌, ◌↔◌, ℕ, Bool, true, false, refl, ap, sym, ◌∙◌, Option, Some, None, Result, Ok, Err}
 use Rattle.bsc_octets.specs.declared.identity.Identity.{Identity}
 use Rattle.bsc_edge.specs.declared.fault.LinkFault.{LinkFault}
@@ -36,7 +37,8 @@ cause_denied (Ask who) (Some (replies at l (RefusedReply r))) rule h = cc
 cause_denied st a rule h = cc
 
 -- what isn't denied has another cause
-answered_denied : (st : Step) (a : Option Answer) (fault : Option LinkFault) (c : Option Closing) (stop : Stop) (rule : ℕ) → first_of (stop_by a) (first_of (stop_if fault) (closes (cause_of st a) c)) ≡ Some stop → stop.why ≡ Denied rule → ⊥
+answered_denied : (st : Step) (a : Option Answer) (fault : Option LinkFault) (c : Option Closing) (stop : Stop) (rule : ℕ)
+    → first_of (stop_by a) (first_of (stop_if fault) (closes (cause_of st a) c)) ≡ Some stop → stop.why ≡ Denied rule → ⊥
 answered_denied st (Some worn) fault c stop rule is why = (let k : Worn ≡ Denied rule = sym (why_is _ stop is) ∙ why in cc)
 answered_denied st (Some no_memory) fault c stop rule is why = (let k : NoMemory ≡ Denied rule = sym (why_is _ stop is) ∙ why in cc)
 answered_denied st None None c stop rule is why = cause_denied st None rule (sym (closes_why (cause_of st None) c stop is) ∙ why)
@@ -47,13 +49,15 @@ answered_denied st (Some (replies at l r)) (Some f) c stop rule is why = fault_d
 rule_is : (i j : ℕ) → Denied i ≡ Denied j → j ≡ i
 rule_is i j h = cc
 
-message_denied : (v : Terms) (s : Standing) (st : Step) (d : Option Denial) (a : Option Answer) (fault : Option LinkFault) (stop : Stop) (rule : ℕ) → stop_message v s st d a None fault ≡ Some stop → stop.why ≡ Denied rule → (rule ≡ 0) × IsTurnedAway st d
+message_denied : (v : Terms) (s : Standing) (st : Step) (d : Option Denial) (a : Option Answer) (fault : Option LinkFault) (stop : Stop) (rule : ℕ)
+    → stop_message v s st d a None fault ≡ Some stop → stop.why ≡ Denied rule → (rule ≡ 0) × IsTurnedAway st d
 message_denied v s st None a fault stop rule is why = absurd (answered_denied st a fault (closing_in (last_wanted v s st a)) stop rule is why)
 message_denied v s (Ask who) (Some x) a fault stop rule is why = (rule_is 0 rule (sym (why_is _ stop is) ∙ why), (who, x, refl, refl))
 message_denied v s st (Some x) a fault stop rule is why = absurd (answered_denied st a fault (closing_in (last_wanted v s st a)) stop rule is why)
 
 given_denied : (v : Terms) (s0 s : Standing) (now : ℕ) (given : Result Incoming LinkFault) (judged : Bool) (d : Option Denial) (a : Option Answer) (fault : Option LinkFault) (stop : Stop) (rule : ℕ)
-    → stop_given given (stop_judged judged (stop_message v s (heard_step v s0 now judged given) d a None fault)) ≡ Some stop → stop.why ≡ Denied rule → (rule ≡ 0) × IsTurnedAway (heard_step v s0 now judged given) d
+    → stop_given given (stop_judged judged (stop_message v s (heard_step v s0 now judged given) d a None fault)) ≡ Some stop → stop.why ≡ Denied rule → (rule ≡ 0)
+    × IsTurnedAway (heard_step v s0 now judged given) d
 given_denied v s0 s now (Err f) judged d a fault stop rule is why = absurd (fault_denied f rule (sym (why_is (stop_at f) stop is) ∙ why))
 given_denied v s0 s now (Ok Closed) judged d a fault stop rule is why = (let k : PeerClosed ≡ Denied rule = sym (why_is _ stop is) ∙ why in cc)
 given_denied v s0 s now (Ok Text) judged d a fault stop rule is why = (let k : NotBinary ≡ Denied rule = sym (why_is _ stop is) ∙ why in cc)
@@ -62,11 +66,14 @@ given_denied v s0 s now (Ok (Message m)) true d a fault stop rule is why = messa
 given_denied v s0 s now (Ok (Message m)) false d a fault stop rule is why = (let k : NoMemory ≡ Denied rule = sym (why_is _ stop is) ∙ why in cc)
 
 -- where a device was denied, it is so that the session stops
-asked_stops : (v : Terms) (s : Standing) (st : Step) (d : Option Denial) (a : Option Answer) (fault : Option LinkFault) (stop : Stop) (who : Identity) (x : Denial) → st ≡ Ask who → d ≡ Some x → stop_message v s st d a None fault ≡ Some stop → stop.why ≡ Denied 0
+asked_stops : (v : Terms) (s : Standing) (st : Step) (d : Option Denial) (a : Option Answer) (fault : Option LinkFault) (stop : Stop) (who : Identity) (x : Denial) → st ≡ Ask who
+    → d ≡ Some x → stop_message v s st d a None fault ≡ Some stop → stop.why ≡ Denied 0
 asked_stops v s st d a fault stop who x asks denies is = (let k : stop_message v s (Ask who) (Some x) a None fault ≡ Some stop = rw (asks, denies) at is in why_is _ stop k)
 
-denied_stops : (v : Terms) (s0 s : Standing) (now : ℕ) (given : Result Incoming LinkFault) (judged : Bool) (d : Option Denial) (a : Option Answer) (fault : Option LinkFault) (stop : Stop) (who : Identity) (x : Denial)
-    → heard_step v s0 now judged given ≡ Ask who → d ≡ Some x → stop_given given (stop_judged judged (stop_message v s (heard_step v s0 now judged given) d a None fault)) ≡ Some stop → stop.why ≡ Denied 0
+denied_stops : (v : Terms) (s0 s : Standing) (now : ℕ) (given : Result Incoming LinkFault) (judged : Bool) (d : Option Denial) (a : Option Answer) (fault : Option LinkFault) (stop : Stop)
+    (who : Identity) (x : Denial)
+    → heard_step v s0 now judged given ≡ Ask who → d ≡ Some x → stop_given given (stop_judged judged (stop_message v s (heard_step v s0 now judged given) d a None fault)) ≡ Some stop
+    → stop.why ≡ Denied 0
 denied_stops v s0 s now (Ok (Message m)) true d a fault stop who x asks denies is = asked_stops v s (heard_step v s0 now true (Ok (Message m))) d a fault stop who x asks denies is
 denied_stops v s0 s now (Ok (Message m)) false d a fault stop who x asks denies is = cc
 denied_stops v s0 s now (Ok Closed) true d a fault stop who x asks denies is = cc
@@ -77,8 +84,10 @@ denied_stops v s0 s now (Ok Quiet) judged d a fault stop who x asks denies is = 
 denied_stops v s0 s now (Err f) true d a fault stop who x asks denies is = cc
 denied_stops v s0 s now (Err f) false d a fault stop who x asks denies is = cc
 
-denied_first : (v : Terms) (s : Standing) (o : Opening) (h : Option Hearing) (stop : Stop) (rule : ℕ) → Ends (given_in h) (judged_in h) (answer_in h) (hearing_fault o.fault h) stop.why → lost_after h ≡ None
-    → IsTurn v s (record { opening = o; hearing = h }) → stop_in v s (record { opening = o; hearing = h }) ≡ Some stop → stop.why ≡ Denied rule → (rule ≡ 0) × IsDenied v s (Some (record { opening = o; hearing = h }))
+denied_first : (v : Terms) (s : Standing) (o : Opening) (h : Option Hearing) (stop : Stop) (rule : ℕ) → Ends (given_in h) (judged_in h) (answer_in h) (hearing_fault o.fault h) stop.why
+    → lost_after h ≡ None
+    → IsTurn v s (record { opening = o; hearing = h }) → stop_in v s (record { opening = o; hearing = h }) ≡ Some stop → stop.why ≡ Denied rule → (rule ≡ 0)
+    × IsDenied v s (Some (record { opening = o; hearing = h }))
 denied_first v s o None stop rule e unlost is stops why = absurd (denied_after rule e why)
 denied_first v s o (Some x) stop rule e unlost is stops why =
     let k = given_denied v (opened s o) (heard v (opened s o) o.reading x.judged x.given) o.reading x.given x.judged (denial_in v (opened s o) o.reading x) x.answer x.fault stop rule
@@ -88,10 +97,12 @@ denied_first v s o (Some x) stop rule e unlost is stops why =
 denied_last : (v : Terms) (s : Standing) (o : Opening) (h : Option Hearing) (stop : Stop) → lost_after h ≡ None
     → IsTurn v s (record { opening = o; hearing = h }) → stop_in v s (record { opening = o; hearing = h }) ≡ Some stop → IsDenied v s (Some (record { opening = o; hearing = h })) → stop.why ≡ Denied 0
 denied_last v s o None stop unlost is stops k = absurd k
-denied_last v s o (Some x) stop unlost is stops k = denied_stops v (opened s o) (heard v (opened s o) o.reading x.judged x.given) o.reading x.given x.judged (denial_in v (opened s o) o.reading x) x.answer x.fault stop k.who k.denial k.asks k.denies
+denied_last v s o (Some x) stop unlost is stops k = denied_stops v (opened s o) (heard v (opened s o) o.reading x.judged x.given) o.reading x.given x.judged
+    (denial_in v (opened s o) o.reading x) x.answer x.fault stop k.who k.denial k.asks k.denies
     (rw unlost at (after_none (stop_before v s o) _ stop (no_stop (stop_before v s o) is.heard) stops))
 
-pub denied_row : (v : Terms) (s : Standing) (o : Opening) (h : Option Hearing) (stop : Stop) (rule : ℕ) → Ends (given_in h) (judged_in h) (answer_in h) (hearing_fault o.fault h) stop.why → lost_after h ≡ None
+pub denied_row : (v : Terms) (s : Standing) (o : Opening) (h : Option Hearing) (stop : Stop) (rule : ℕ) → Ends (given_in h) (judged_in h) (answer_in h) (hearing_fault o.fault h) stop.why
+    → lost_after h ≡ None
     → IsTurn v s (record { opening = o; hearing = h }) → stop_in v s (record { opening = o; hearing = h }) ≡ Some stop
     → stop.why ≡ Denied rule ↔ ((rule ≡ 0) × IsDenied v s (Some (record { opening = o; hearing = h })))
 denied_row v s o h stop rule e unlost is stops = (

@@ -1,4 +1,5 @@
 -- A job that was worked off, by what its serving call says.
+-- It serves the clauses of `work`.
 use Rattle.std.proofs.Common.{◌≡◌, ◌≤◌, ℕ, true, false, List, None, Option, sym, subst, ◌∙◌, true≢false}
 use Rattle.std.specs.Arc.{arc_value}
 use Rattle.bsc_outside.specs.Faults.{HasRisen}

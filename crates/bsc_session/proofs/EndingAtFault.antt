@@ -1,4 +1,5 @@
 -- The talk of a session ends at its first fault.
+-- It serves clauses of functions of `ending`, `laws` and `serving`.
 use Rattle.std.proofs.Common.{◌≡◌, ◌⊎◌, ℕ, Bool, true, false, is_some, is_none, ◌&&◌, List, [], ◌∷◌, ◌++◌, refl, sym, ◌∙◌, inl, inr, append-nil, append_assoc, Option, Some, None, Result, Ok, Err}
 use Rattle.std.specs.Prelude.{⊤}
 use Rattle.bsc_history.specs.declared.ending.End.{End}
@@ -63,7 +64,8 @@ pub some_is : (a b : Stop) → Some a ≡ Some b → b ≡ a
 some_is a b h = cc
 
 -- puts, and then how they stop the session
-ends_putting : (os : List (List ℕ)) (fault : Option LinkFault) (later : Option Stop) (stop : Stop) → HasPut os fault → first_of (stop_if fault) later ≡ Some stop → EndsAtFault (puts os fault ++ said_closing stop.closing)
+ends_putting : (os : List (List ℕ)) (fault : Option LinkFault) (later : Option Stop) (stop : Stop) → HasPut os fault → first_of (stop_if fault) later ≡ Some stop
+    → EndsAtFault (puts os fault ++ said_closing stop.closing)
 ends_putting os None later stop h is = well_then (puts os None) (said_closing stop.closing) (well-puts os) (ends_closing stop.closing)
 ends_putting os (Some f) later stop h is = rw (some_is (stop_at f) stop is) (ends_puts os f h)
 
@@ -82,20 +84,23 @@ first_none (Some s) b h = cc
 
 -- ---- the opening
 
-ends_stop : (w : Why) (tick : Option Closing) (os : List (List ℕ)) (lost fault : Option LinkFault) (later : Option Stop) (stop : Stop) → HasPut os fault → (tick ≡ None) ⊎ (os ≡ []) → ((f : LinkFault) → lost ≡ Some f → fault ≡ None)
+ends_stop : (w : Why) (tick : Option Closing) (os : List (List ℕ)) (lost fault : Option LinkFault) (later : Option Stop) (stop : Stop) → HasPut os fault → (tick ≡ None) ⊎ (os ≡ [])
+    → ((f : LinkFault) → lost ≡ Some f → fault ≡ None)
     → first_of (closes w tick) (first_of (stop_lost lost) (first_of (stop_if fault) later)) ≡ Some stop → EndsAtFault (puts os fault ++ said_closing stop.closing)
 ends_stop w None os None fault later stop h quiet clear is = ends_putting os fault later stop h is
 ends_stop w None os (Some f) fault later stop h quiet clear is = ends_lost os fault stop.closing (clear f refl)
 ends_stop w (Some c) os lost fault later stop h (inl quiet) clear is = cc
 ends_stop w (Some c) os lost fault later stop h (inr none) clear is = rw none (ends_closing stop.closing)
 
-well_stop : (earlier : Option Stop) (os : List (List ℕ)) (lost fault : Option LinkFault) (later : Option Stop) → first_of earlier (first_of (stop_lost lost) (first_of (stop_if fault) later)) ≡ None → IsWell (puts os fault)
+well_stop : (earlier : Option Stop) (os : List (List ℕ)) (lost fault : Option LinkFault) (later : Option Stop)
+    → first_of earlier (first_of (stop_lost lost) (first_of (stop_if fault) later)) ≡ None → IsWell (puts os fault)
 well_stop None os None fault later h = well_putting None os fault later h
 well_stop None os (Some f) fault later h = cc
 well_stop (Some s) os lost fault later h = cc
 
 -- a fault of the last put is one of what is put
-some_put : (v : Terms) (s s' : Standing) (now : ℕ) (frames : List (List ℕ)) (met : Option End) (fault : Option LinkFault) → HasPut (last_of (passing v s (last_alone frames)) (octets_in (end_step v s' now met)) met) fault
+some_put : (v : Terms) (s s' : Standing) (now : ℕ) (frames : List (List ℕ)) (met : Option End) (fault : Option LinkFault)
+    → HasPut (last_of (passing v s (last_alone frames)) (octets_in (end_step v s' now met)) met) fault
     → HasPut (passing v s frames ++ octets_in (end_step v s' now met)) fault
 some_put v s s' now frames None fault h = rw append-nil (through_last v.policy s.address frames fault h)
 some_put v s s' now frames (Some e) fault h = HasPut-append (passing v s frames) (octets_in (end_step v s' now (Some e))) fault h
@@ -127,13 +132,15 @@ nothing_put v s (PutClose o c) a h calls = cc
 nothing_put v s (Close c) a h calls = cc
 nothing_put v s Nothing a h calls = cc
 
-ends_answered : (v : Terms) (s : Standing) (st : Step) (answer : Option Answer) (fault : Option LinkFault) (later : Option Stop) (stop : Stop) → is_some answer ≡ calls st → HasPut (octets_in (last_wanted v s st answer)) fault
+ends_answered : (v : Terms) (s : Standing) (st : Step) (answer : Option Answer) (fault : Option LinkFault) (later : Option Stop) (stop : Stop) → is_some answer ≡ calls st
+    → HasPut (octets_in (last_wanted v s st answer)) fault
     → first_of (stop_by answer) (first_of (stop_if fault) later) ≡ Some stop → EndsAtFault (puts (octets_in (last_wanted v s st answer)) fault ++ said_closing stop.closing)
 ends_answered v s st (Some worn) fault later stop calls h is = rw (nothing_put v s st worn (inl refl) calls) (ends_closing stop.closing)
 ends_answered v s st (Some no_memory) fault later stop calls h is = rw (nothing_put v s st no_memory (inr refl) calls) (ends_closing stop.closing)
 ends_answered v s st answer fault later stop calls h is = ends_putting (octets_in (last_wanted v s st answer)) fault later stop h is
 
-ends_message : (v : Terms) (s : Standing) (st : Step) (denial : Option Denial) (answer : Option Answer) (lost fault : Option LinkFault) (stop : Stop) → is_some answer ≡ is_none denial && calls st → HasPut (put_unless lost (octets_in (last_wanted v s st answer))) fault
+ends_message : (v : Terms) (s : Standing) (st : Step) (denial : Option Denial) (answer : Option Answer) (lost fault : Option LinkFault) (stop : Stop)
+    → is_some answer ≡ is_none denial && calls st → HasPut (put_unless lost (octets_in (last_wanted v s st answer))) fault
     → stop_message v s st denial answer lost fault ≡ Some stop → EndsAtFault (puts (put_unless lost (octets_in (last_wanted v s st answer))) fault ++ said_closing stop.closing)
 ends_message v s st denial answer (Some f) fault stop calls h is = ends_closing stop.closing
 ends_message v s st None answer None fault stop calls h is = ends_answered v s st answer fault _ stop calls h is
@@ -142,12 +149,14 @@ ends_message v s (Ask who) (Some d) None None fault stop calls h is = ends_closi
 ends_message v s st (Some d) None None fault stop calls h is = ends_putting (octets_in (last_wanted v s st None)) fault _ stop h is
 
 -- a step that calls nobody and puts nothing
-ends_quiet : (v : Terms) (s : Standing) (answer : Option Answer) (lost fault : Option LinkFault) (c : Option Closing) → EndsAtFault (puts (put_unless lost (octets_in (last_wanted v s Nothing answer))) fault ++ said_closing c)
+ends_quiet : (v : Terms) (s : Standing) (answer : Option Answer) (lost fault : Option LinkFault) (c : Option Closing)
+    → EndsAtFault (puts (put_unless lost (octets_in (last_wanted v s Nothing answer))) fault ++ said_closing c)
 ends_quiet v s answer None fault c = ends_closing c
 ends_quiet v s answer (Some f) fault c = ends_closing c
 
 ends_judged : (v : Terms) (s0 s : Standing) (now : ℕ) (judged : Bool) (m : List ℕ) (denial : Option Denial) (answer : Option Answer) (lost fault : Option LinkFault) (stop : Stop)
-    → is_some answer ≡ is_none denial && calls (heard_step v s0 now judged (Ok (Message m))) → HasPut (put_unless lost (octets_in (last_wanted v s (heard_step v s0 now judged (Ok (Message m))) answer))) fault
+    → is_some answer ≡ is_none denial && calls (heard_step v s0 now judged (Ok (Message m)))
+    → HasPut (put_unless lost (octets_in (last_wanted v s (heard_step v s0 now judged (Ok (Message m))) answer))) fault
     → stop_judged judged (stop_message v s (heard_step v s0 now judged (Ok (Message m))) denial answer lost fault) ≡ Some stop
     → EndsAtFault (puts (put_unless lost (octets_in (last_wanted v s (heard_step v s0 now judged (Ok (Message m))) answer))) fault ++ said_closing stop.closing)
 ends_judged v s0 s now true m denial answer lost fault stop calls h is = ends_message v s (heard_step v s0 now true (Ok (Message m))) denial answer lost fault stop calls h is
@@ -171,26 +180,33 @@ unheard_quiet v s now true = refl
 unheard_quiet v s now false = refl
 
 -- what isn't a message puts nothing, and then the session is closed
-ends_silent : (v : Terms) (s : Standing) (st : Step) (answer : Option Answer) (lost fault : Option LinkFault) (c : Option Closing) → st ≡ Nothing → EndsAtFault (puts (put_unless lost (octets_in (last_wanted v s st answer))) fault ++ said_closing c)
+ends_silent : (v : Terms) (s : Standing) (st : Step) (answer : Option Answer) (lost fault : Option LinkFault) (c : Option Closing) → st ≡ Nothing
+    → EndsAtFault (puts (put_unless lost (octets_in (last_wanted v s st answer))) fault ++ said_closing c)
 ends_silent v s st answer lost fault c quiet = rw quiet (ends_quiet v s answer lost fault c)
 
 silent_put : (v : Terms) (s : Standing) (st : Step) (answer : Option Answer) (lost fault : Option LinkFault) → st ≡ Nothing → puts (put_unless lost (octets_in (last_wanted v s st answer))) fault ≡ []
 silent_put v s st answer None fault quiet = rw quiet refl
 silent_put v s st answer (Some f) fault quiet = refl
 
-ends_given : (v : Terms) (s0 s : Standing) (now wait : ℕ) (judged : Bool) (given : Result Incoming LinkFault) (denial : Option Denial) (answer : Option Answer) (lost fault : Option LinkFault) (stop : Stop)
+ends_given : (v : Terms) (s0 s : Standing) (now wait : ℕ) (judged : Bool) (given : Result Incoming LinkFault) (denial : Option Denial) (answer : Option Answer)
+    (lost fault : Option LinkFault) (stop : Stop)
     → is_some answer ≡ is_none denial && calls (heard_step v s0 now judged given) → HasPut (put_unless lost (octets_in (last_wanted v s (heard_step v s0 now judged given) answer))) fault
     → stop_given given (stop_judged judged (stop_message v s (heard_step v s0 now judged given) denial answer lost fault)) ≡ Some stop
     → EndsAtFault (Gave wait given ∷ (puts (put_unless lost (octets_in (last_wanted v s (heard_step v s0 now judged given) answer))) fault ++ said_closing stop.closing))
-ends_given v s0 s now wait judged (Err Failed) denial answer lost fault stop calls h is = rw (silent_put v s (heard_step v s0 now judged (Err Failed)) answer lost fault (unheard v s0 now judged Failed), some_is (stop_at Failed) stop is) (refl, tt)
-ends_given v s0 s now wait judged (Err NoMemory) denial answer lost fault stop calls h is = rw (silent_put v s (heard_step v s0 now judged (Err NoMemory)) answer lost fault (unheard v s0 now judged NoMemory), some_is (stop_at NoMemory) stop is) (refl, (tt, tt))
-ends_given v s0 s now wait judged (Ok Closed) denial answer lost fault stop calls h is = (tt, ends_silent v s (heard_step v s0 now judged (Ok Closed)) answer lost fault stop.closing (unheard_closed v s0 now judged))
-ends_given v s0 s now wait judged (Ok Text) denial answer lost fault stop calls h is = (tt, ends_silent v s (heard_step v s0 now judged (Ok Text)) answer lost fault stop.closing (unheard_text v s0 now judged))
+ends_given v s0 s now wait judged (Err Failed) denial answer lost fault stop calls h is =
+    rw (silent_put v s (heard_step v s0 now judged (Err Failed)) answer lost fault (unheard v s0 now judged Failed), some_is (stop_at Failed) stop is) (refl, tt)
+ends_given v s0 s now wait judged (Err NoMemory) denial answer lost fault stop calls h is =
+    rw (silent_put v s (heard_step v s0 now judged (Err NoMemory)) answer lost fault (unheard v s0 now judged NoMemory), some_is (stop_at NoMemory) stop is) (refl, (tt, tt))
+ends_given v s0 s now wait judged (Ok Closed) denial answer lost fault stop calls h is =
+    (tt, ends_silent v s (heard_step v s0 now judged (Ok Closed)) answer lost fault stop.closing (unheard_closed v s0 now judged))
+ends_given v s0 s now wait judged (Ok Text) denial answer lost fault stop calls h is =
+    (tt, ends_silent v s (heard_step v s0 now judged (Ok Text)) answer lost fault stop.closing (unheard_text v s0 now judged))
 ends_given v s0 s now wait judged (Ok Quiet) denial answer lost fault stop calls h is = cc
 ends_given v s0 s now wait judged (Ok (Message x)) denial answer lost fault stop calls h is = (tt, ends_judged v s0 s now judged x denial answer lost fault stop calls h is)
 
 -- a message after which the session goes on
-well_message : (v : Terms) (s : Standing) (st : Step) (denial : Option Denial) (answer : Option Answer) (lost fault : Option LinkFault) → stop_message v s st denial answer lost fault ≡ None → IsWell (puts (put_unless lost (octets_in (last_wanted v s st answer))) fault)
+well_message : (v : Terms) (s : Standing) (st : Step) (denial : Option Denial) (answer : Option Answer) (lost fault : Option LinkFault) → stop_message v s st denial answer lost fault ≡ None
+    → IsWell (puts (put_unless lost (octets_in (last_wanted v s st answer))) fault)
 well_message v s st denial answer (Some f) fault is = cc
 well_message v s st denial answer None fault is = well_putting (stop_by answer) _ fault _ (first_none (stop_denied denial st) _ is).1
 
@@ -224,19 +240,22 @@ pub after_none : (a b : Option Stop) (stop : Stop) → a ≡ None → first_of a
 after_none None b stop h is = is
 after_none (Some s) b stop h is = cc
 
-ends_turn : (v : Terms) (s : Standing) (o : Opening) (h : Option Hearing) (stop : Stop) → IsTurn v s (record { opening = o; hearing = h }) → stop_in v s (record { opening = o; hearing = h }) ≡ Some stop
+ends_turn : (v : Terms) (s : Standing) (o : Opening) (h : Option Hearing) (stop : Stop) → IsTurn v s (record { opening = o; hearing = h })
+    → stop_in v s (record { opening = o; hearing = h }) ≡ Some stop
     → EndsAtFault (said_in v s (record { opening = o; hearing = h }) ++ said_closing stop.closing)
 ends_turn v s o None stop is stops = rw append-nil (ends_opening v s o stop is.opening (sym (alone (stop_before v s o)) ∙ stops))
 ends_turn v s o (Some h) stop is stops =
     let quiet : stop_before v s o ≡ None = no_stop (stop_before v s o) is.heard in
     rw append_assoc (well_then (puts (put_first v s o) o.fault) (said_hearing v (opened s o) o.reading (wait_in o) h ++ said_closing stop.closing) (well_opening v s o quiet)
-    (ends_given v (opened s o) (heard v (opened s o) o.reading h.judged h.given) o.reading (wait_in o) h.judged h.given (denied_in v (opened s o) (heard_step v (opened s o) o.reading h.judged h.given) h.given) h.answer h.lost h.fault stop is.hearing.calls is.hearing.cause
+    (ends_given v (opened s o) (heard v (opened s o) o.reading h.judged h.given) o.reading (wait_in o) h.judged h.given
+    (denied_in v (opened s o) (heard_step v (opened s o) o.reading h.judged h.given) h.given) h.answer h.lost h.fault stop is.hearing.calls is.hearing.cause
     (after_none (stop_before v s o) _ stop quiet stops)))
 
 well_turn : (v : Terms) (s : Standing) (o : Opening) (h : Option Hearing) → stop_in v s (record { opening = o; hearing = h }) ≡ None → IsWell (said_in v s (record { opening = o; hearing = h }))
 well_turn v s o None on = rw append-nil (well_opening v s o (first_none (stop_before v s o) _ on).0)
 well_turn v s o (Some h) on = well-append (puts (put_first v s o) o.fault) (said_hearing v (opened s o) o.reading (wait_in o) h) (well_opening v s o (first_none (stop_before v s o) _ on).0)
-    (well_given v (opened s o) (heard v (opened s o) o.reading h.judged h.given) o.reading (wait_in o) h.judged h.given (denied_in v (opened s o) (heard_step v (opened s o) o.reading h.judged h.given) h.given) h.answer h.lost h.fault (first_none (stop_before v s o) _ on).1)
+    (well_given v (opened s o) (heard v (opened s o) o.reading h.judged h.given) o.reading (wait_in o) h.judged h.given
+    (denied_in v (opened s o) (heard_step v (opened s o) o.reading h.judged h.given) h.given) h.answer h.lost h.fault (first_none (stop_before v s o) _ on).1)
 
 -- ---- the course
 

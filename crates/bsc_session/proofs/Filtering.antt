@@ -1,4 +1,5 @@
 -- Frames that a policy lets through, and what is noted of the others, frame by frame.
+-- It serves clauses of most source files here.
 use Rattle.std.proofs.Common.{◌≡◌, ℕ, ◌+◌, List, [], ◌∷◌, ◌++◌, length, length-append, map, take, refl, ap, sym, subst, ◌∙◌, append_assoc, arith, Option, Some, None}
 use Rattle.std.specs.Prelude.{is_none}
 use Rattle.std.specs.Io.KnownBytes.{Appends}
@@ -10,7 +11,7 @@ use Rattle.bsc_octets.specs.declared.vmac.Vmac.{Vmac}
 use Rattle.bsc_policy.specs.declared.policy.Policy.{Policy}
 use Rattle.bsc_edge.specs.declared.fault.LinkFault.{LinkFault}
 use Rattle.bsc_lines.specs.declared.denial.Denial.{Denial}
-use Rattle.bsc_notes.specs.Notes.{HasLine, Note, Records, RecordsPart, all_but_last, denied, lines_of}
+use Rattle.bsc_session.specs.Notes.Notes.{HasLine, Note, Records, RecordsPart, all_but_last, denied, lines_of}
 use Rattle.bsc_history.specs.declared.ending.End.{End}
 use Rattle.bsc_session.specs.Puts.{HasPut}
 use Rattle.bsc_session.specs.Guarding.{denials, denials_by, denied_frame, if_any, let_through}
@@ -46,7 +47,8 @@ pub denials-append : (policy : Option Policy) (to : Option Vmac) (xs ys : List (
 denials-append None to xs ys = refl
 denials-append (Some p) to xs ys = by-append p to xs ys
 
-pub noted-append : (policy : Option Policy) (to : Option Vmac) (xs ys : List (List ℕ)) → map denied (denials policy to (xs ++ ys)) ≡ map denied (denials policy to xs) ++ map denied (denials policy to ys)
+pub noted-append : (policy : Option Policy) (to : Option Vmac) (xs ys : List (List ℕ))
+    → map denied (denials policy to (xs ++ ys)) ≡ map denied (denials policy to xs) ++ map denied (denials policy to ys)
 noted-append policy to xs ys = ap (map denied) (denials-append policy to xs ys) ∙ map-append denied (denials policy to xs) (denials policy to ys)
 
 -- the last of frames with one more
@@ -56,11 +58,13 @@ last_alone-more (x ∷ []) f = refl
 last_alone-more (x ∷ (y ∷ xs)) f = last_alone-more (y ∷ xs) f
 
 -- a put of the last frame is one of all
-pub through_last : (policy : Option Policy) (to : Option Vmac) (frames : List (List ℕ)) (fault : Option LinkFault) → HasPut (let_through policy to (last_alone frames)) fault → HasPut (let_through policy to frames) fault
+pub through_last : (policy : Option Policy) (to : Option Vmac) (frames : List (List ℕ)) (fault : Option LinkFault) → HasPut (let_through policy to (last_alone frames)) fault
+    → HasPut (let_through policy to frames) fault
 through_last policy to [] fault h = h
 through_last policy to (f ∷ []) fault h = h
 through_last policy to (f ∷ (g ∷ fs)) fault h =
-    subst (λ w. HasPut w fault) (sym (let_through-append policy to (f ∷ []) (g ∷ fs))) (HasPut-append (let_through policy to (f ∷ [])) (let_through policy to (g ∷ fs)) fault (through_last policy to (g ∷ fs) fault h))
+    subst (λ w. HasPut w fault) (sym (let_through-append policy to (f ∷ []) (g ∷ fs)))
+    (HasPut-append (let_through policy to (f ∷ [])) (let_through policy to (g ∷ fs)) fault (through_last policy to (g ∷ fs) fault h))
 
 -- ---- a frame that is denied isn't put
 
@@ -112,6 +116,7 @@ records_more a b c ns (m ∷ ms) (Some fault) h k line =
       length (lines_of ns) + part.0,
       omega (arith, low, first, part.1),
       omega (arith, high, part.2),
-      subst (Appends a c) (sym (ap (take (length (lines_of ns) + part.0)) (lines-append ns (m ∷ ms)) ∙ take-append-add (lines_of ns) (lines_of (m ∷ ms)) part.0)) (Appends-trans a b c (lines_of ns) (take part.0 (lines_of (m ∷ ms))) h.0 part.3),
+      subst (Appends a c) (sym (ap (take (length (lines_of ns) + part.0)) (lines-append ns (m ∷ ms)) ∙ take-append-add (lines_of ns) (lines_of (m ∷ ms)) part.0))
+          (Appends-trans a b c (lines_of ns) (take part.0 (lines_of (m ∷ ms))) h.0 part.3),
     ) in
     (all, octets-append ns (m ∷ ms) h.1 k.1)

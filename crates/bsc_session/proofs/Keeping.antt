@@ -1,5 +1,6 @@
 -- What holds wherever a session stands: it has a connection exactly where its machine has joined, and where that
 -- disconnects an End was met.
+-- It serves the clauses of `causes_are_exact` and `serve`.
 use Rattle.std.proofs.Common.{◌≡◌, ℕ, Bool, true, false, cond, is_some, List, [], ◌∷◌, refl, ap, sym, ◌∙◌, Option, Some, None, Result, Ok}
 use Rattle.bsc_history.specs.declared.ending.End.{End}
 use Rattle.bsc_history.specs.declared.reply.Reply.TheVariants.{Joined, Refused}

@@ -1,4 +1,5 @@
 -- When a Disconnect-Request or an End ends a session.
+-- It serves the clauses of `causes_are_exact` and `serve`.
 use Rattle.std.proofs.Common.{◌≡◌, ◌↔◌, ℕ, Bool, true, false, is_some, is_none, ◌&&◌, List, refl, sym, ◌∙◌, Option, Some, None, Result, Ok, Err}
 use Rattle.bsc_octets.specs.declared.identity.Identity.{Identity}
 use Rattle.bsc_frame.specs.declared.body.Body.{Body}
@@ -55,7 +56,8 @@ lost_parts MemoryFault d h = cc
 
 -- a stop that has the cause of an End is by one that was met
 parts_by : (conn : Option ℕ) (tick : Option Closing) (lost fault : Option LinkFault) (v : Terms) (s : Standing) (met : Option End) (now : ℕ) (stop : Stop) (d : End)
-    → first_of (closes (waiting_for conn) tick) (first_of (stop_lost lost) (first_of (stop_if fault) (closes (ended_by met) (closing_in (end_step v s now met))))) ≡ Some stop → stop.why ≡ EndedBy d → met ≡ Some d
+    → first_of (closes (waiting_for conn) tick) (first_of (stop_lost lost) (first_of (stop_if fault) (closes (ended_by met) (closing_in (end_step v s now met))))) ≡ Some stop
+    → stop.why ≡ EndedBy d → met ≡ Some d
 parts_by conn (Some c) lost fault v s met now stop d is why = absurd (waiting_parts conn d (sym (why_is _ stop is) ∙ why))
 parts_by conn None (Some f) fault v s met now stop d is why = absurd (lost_parts f d (sym (why_is (stop_unrecorded f) stop is) ∙ why))
 parts_by conn None None (Some f) v s met now stop d is why = absurd (fault_parts f d (sym (why_is (stop_at f) stop is) ∙ why))
@@ -64,7 +66,8 @@ parts_by conn None None None v s (Some e) now stop d is why = (let k : EndedBy e
 
 pub end_named : (v : Terms) (s : Standing) (o : Opening) (h : Option Hearing) (stop : Stop) (d : End) → Ends (given_in h) (judged_in h) (answer_in h) (hearing_fault o.fault h) stop.why
     → stop_in v s (record { opening = o; hearing = h }) ≡ Some stop → stop.why ≡ EndedBy d → (after v s (record { opening = o; hearing = h })).ended ≡ Some d
-end_named v s o None stop d e stops why = met_known v s o None d (parts_by s.conn (closing_in (wanted_at v s o.reading)) o.lost o.fault v (ticked s o.reading) o.met o.reading stop d (sym (alone (stop_before v s o)) ∙ stops) why)
+end_named v s o None stop d e stops why = met_known v s o None d (parts_by s.conn (closing_in (wanted_at v s o.reading)) o.lost o.fault v (ticked s o.reading) o.met o.reading stop d
+    (sym (alone (stop_before v s o)) ∙ stops) why)
 end_named v s o (Some x) stop d e stops why = absurd (no_gift x (parts_before d e why))
 
 -- ---- a Disconnect-Request
@@ -98,7 +101,8 @@ fault_left : (f : LinkFault) → (stop_at f).why ≡ PeerLeft → ⊥
 fault_left Failed h = cc
 fault_left MemoryFault h = cc
 
-step_left : (v : Terms) (s : Standing) (st : Step) (a : Option Answer) (stop : Stop) → closes (cause_of st a) (closing_in (last_wanted v s st a)) ≡ Some stop → is_some a ≡ calls st → AnswerFits st a → stop.why ≡ PeerLeft
+step_left : (v : Terms) (s : Standing) (st : Step) (a : Option Answer) (stop : Stop) → closes (cause_of st a) (closing_in (last_wanted v s st a)) ≡ Some stop → is_some a ≡ calls st
+    → AnswerFits st a → stop.why ≡ PeerLeft
     → (c : Closing) × (closing_in st ≡ Some c)
 step_left v s (Ask who) (Some (replies at l (RefusedReply r))) stop is calls fits why =
     let k : Refused r ≡ PeerLeft = sym (closes_why (Refused r) (closing_in (last_wanted v s (Ask who) (Some (replies at l (RefusedReply r))))) stop is) ∙ why in cc
@@ -123,7 +127,8 @@ carried_left : (v : Terms) (s : Standing) (fault : Option LinkFault) (stop : Sto
 carried_left v s None stop is why = cc
 carried_left v s (Some f) stop is why = fault_left f (sym (why_is (stop_at f) stop is) ∙ why)
 
-message_left : (v : Terms) (s : Standing) (st : Step) (d : Option Denial) (a : Option Answer) (fault : Option LinkFault) (stop : Stop) → is_some a ≡ is_none d && calls st → AnswerFits st a → stop_message v s st d a None fault ≡ Some stop → stop.why ≡ PeerLeft
+message_left : (v : Terms) (s : Standing) (st : Step) (d : Option Denial) (a : Option Answer) (fault : Option LinkFault) (stop : Stop) → is_some a ≡ is_none d && calls st → AnswerFits st a
+    → stop_message v s st d a None fault ≡ Some stop → stop.why ≡ PeerLeft
     → (fault ≡ None) × ((c : Closing) × (closing_in st ≡ Some c))
 message_left v s st None a fault stop calls fits is why = answered_left v s st a fault stop calls fits is why
 message_left v s st (Some d) (Some a) fault stop calls fits is why = cc
@@ -131,7 +136,8 @@ message_left v s (Ask who) (Some d) None fault stop calls fits is why = (let k :
 message_left v s Up (Some d) None fault stop calls fits is why = absurd (carried_left v s fault stop is why)
 message_left v s st (Some d) None fault stop calls fits is why = answered_left v s st None fault stop refl fits is why
 
-judged_left : (v : Terms) (s0 s : Standing) (now : ℕ) (m : List ℕ) (judged : Bool) (d : Option Denial) (a : Option Answer) (lost fault : Option LinkFault) (stop : Stop) → (has_quit (standing s0.events) ≡ true → ⊥)
+judged_left : (v : Terms) (s0 s : Standing) (now : ℕ) (m : List ℕ) (judged : Bool) (d : Option Denial) (a : Option Answer) (lost fault : Option LinkFault) (stop : Stop)
+    → (has_quit (standing s0.events) ≡ true → ⊥)
     → is_some a ≡ is_none d && calls (heard_step v s0 now judged (Ok (Message m))) → AnswerFits (heard_step v s0 now judged (Ok (Message m))) a
     → stop_judged judged (stop_message v s (heard_step v s0 now judged (Ok (Message m))) d a None fault) ≡ Some stop → stop.why ≡ PeerLeft
     → AnswersLeaving v s0 (record { given = Ok (Message m); judged = judged; answer = a; lost = lost; fault = fault })
@@ -141,7 +147,8 @@ judged_left v s0 s now m true d a lost fault stop quit calls fits is why =
     record { connected = z.live; octets = m; gave = refl; had_memory = refl; message = z.message; passes = z.passes; leaves = z.leaves; put = k.0 }
 judged_left v s0 s now m false d a lost fault stop quit calls fits is why = (let k : NoMemory ≡ PeerLeft = sym (why_is _ stop is) ∙ why in cc)
 
-given_left : (v : Terms) (s0 s : Standing) (now : ℕ) (given : Result Incoming LinkFault) (judged : Bool) (d : Option Denial) (a : Option Answer) (lost fault : Option LinkFault) (stop : Stop) → (has_quit (standing s0.events) ≡ true → ⊥)
+given_left : (v : Terms) (s0 s : Standing) (now : ℕ) (given : Result Incoming LinkFault) (judged : Bool) (d : Option Denial) (a : Option Answer) (lost fault : Option LinkFault) (stop : Stop)
+    → (has_quit (standing s0.events) ≡ true → ⊥)
     → is_some a ≡ is_none d && calls (heard_step v s0 now judged given) → AnswerFits (heard_step v s0 now judged given) a
     → stop_given given (stop_judged judged (stop_message v s (heard_step v s0 now judged given) d a None fault)) ≡ Some stop → stop.why ≡ PeerLeft
     → AnswersLeaving v s0 (record { given = given; judged = judged; answer = a; lost = lost; fault = fault })
@@ -152,41 +159,53 @@ given_left v s0 s now (Ok Quiet) judged d a lost fault stop quit calls fits is w
 given_left v s0 s now (Ok (Message m)) judged d a lost fault stop quit calls fits is why = judged_left v s0 s now m judged d a lost fault stop quit calls fits is why
 
 -- where a Disconnect-Request was answered, it is so that the session stops
-departs_step : (g : MachineStanding) (x : Verdict) (msg : Bvlc) → phase_named g ≡ Connected → x ≡ Pass msg → msg.body ≡ DisconnectRequest → message_step g x ≡ PutClose (octets_of (disconnect_ack msg.id)) normal
+departs_step : (g : MachineStanding) (x : Verdict) (msg : Bvlc) → phase_named g ≡ Connected → x ≡ Pass msg → msg.body ≡ DisconnectRequest
+    → message_step g x ≡ PutClose (octets_of (disconnect_ack msg.id)) normal
 departs_step awaiting_request x msg live is leaves = cc
 departs_step connected x msg live is leaves = rw (is, leaves) refl
 departs_step (disconnecting f) x msg live is leaves = cc
 
-closing_stops : (v : Terms) (s : Standing) (o : ArrayVec ℕ) (c : Closing) (d : Option Denial) (a : Option Answer) (stop : Stop) → is_some a ≡ is_none d && calls (PutClose o c) → stop_message v s (PutClose o c) d a None None ≡ Some stop → stop.why ≡ PeerLeft
+closing_stops : (v : Terms) (s : Standing) (o : ArrayVec ℕ) (c : Closing) (d : Option Denial) (a : Option Answer) (stop : Stop) → is_some a ≡ is_none d && calls (PutClose o c)
+    → stop_message v s (PutClose o c) d a None None ≡ Some stop → stop.why ≡ PeerLeft
 closing_stops v s o c None None stop calls is = why_is (stop_for PeerLeft (Some c)) stop is
 closing_stops v s o c (Some d) None stop calls is = why_is (stop_for PeerLeft (Some c)) stop is
 closing_stops v s o c None (Some a) stop calls is = cc
 closing_stops v s o c (Some d) (Some a) stop calls is = cc
 
-step_stops : (v : Terms) (s : Standing) (st : Step) (o : ArrayVec ℕ) (c : Closing) (d : Option Denial) (a : Option Answer) (stop : Stop) → st ≡ PutClose o c → is_some a ≡ is_none d && calls st → stop_message v s st d a None None ≡ Some stop → stop.why ≡ PeerLeft
+step_stops : (v : Terms) (s : Standing) (st : Step) (o : ArrayVec ℕ) (c : Closing) (d : Option Denial) (a : Option Answer) (stop : Stop) → st ≡ PutClose o c
+    → is_some a ≡ is_none d && calls st → stop_message v s st d a None None ≡ Some stop → stop.why ≡ PeerLeft
 step_stops v s st o c d a stop e calls is = closing_stops v s o c d a stop (rw e at calls) (rw e at is)
 
-answered_stops : (v : Terms) (s0 s : Standing) (now : ℕ) (given : Result Incoming LinkFault) (judged : Bool) (d : Option Denial) (a : Option Answer) (fault : Option LinkFault) (stop : Stop) (m : List ℕ) (msg : Bvlc)
+answered_stops : (v : Terms) (s0 s : Standing) (now : ℕ) (given : Result Incoming LinkFault) (judged : Bool) (d : Option Denial) (a : Option Answer) (fault : Option LinkFault) (stop : Stop)
+    (m : List ℕ) (msg : Bvlc)
     → given ≡ Ok (Message m) → judged ≡ true → fault ≡ None → phase_named (standing s0.events) ≡ Connected → verdict_on v s0 m ≡ Pass msg → msg.body ≡ DisconnectRequest
-    → is_some a ≡ is_none d && calls (heard_step v s0 now judged given) → stop_given given (stop_judged judged (stop_message v s (heard_step v s0 now judged given) d a None fault)) ≡ Some stop → stop.why ≡ PeerLeft
+    → is_some a ≡ is_none d && calls (heard_step v s0 now judged given) → stop_given given (stop_judged judged (stop_message v s (heard_step v s0 now judged given) d a None fault))
+    ≡ Some stop → stop.why ≡ PeerLeft
 answered_stops v s0 s now given judged d a fault stop m msg gave memory put live passes leaves calls is =
-    step_stops v s (message_step (standing s0.events) (verdict_on v s0 m)) _ normal d a stop (departs_step (standing s0.events) (verdict_on v s0 m) msg live passes leaves) (rw (memory, gave) at calls) (rw (memory, gave, put) at is)
+    step_stops v s (message_step (standing s0.events) (verdict_on v s0 m)) _ normal d a stop (departs_step (standing s0.events) (verdict_on v s0 m) msg live passes leaves)
+    (rw (memory, gave) at calls) (rw (memory, gave, put) at is)
 
 -- ---- the row
 
-left_first : (v : Terms) (s : Standing) (o : Opening) (h : Option Hearing) (stop : Stop) → Ends (given_in h) (judged_in h) (answer_in h) (hearing_fault o.fault h) stop.why → (has_quit (standing (opened s o).events) ≡ true → ⊥) → lost_after h ≡ None
-    → IsTurn v s (record { opening = o; hearing = h }) → stop_in v s (record { opening = o; hearing = h }) ≡ Some stop → stop.why ≡ PeerLeft → HasAnswered v s (Some (record { opening = o; hearing = h }))
+left_first : (v : Terms) (s : Standing) (o : Opening) (h : Option Hearing) (stop : Stop) → Ends (given_in h) (judged_in h) (answer_in h) (hearing_fault o.fault h) stop.why
+    → (has_quit (standing (opened s o).events) ≡ true → ⊥) → lost_after h ≡ None
+    → IsTurn v s (record { opening = o; hearing = h }) → stop_in v s (record { opening = o; hearing = h }) ≡ Some stop → stop.why ≡ PeerLeft
+    → HasAnswered v s (Some (record { opening = o; hearing = h }))
 left_first v s o None stop e quit unlost is stops why = absurd (left_after e why)
-left_first v s o (Some x) stop e quit unlost is stops why = given_left v (opened s o) (heard v (opened s o) o.reading x.judged x.given) o.reading x.given x.judged (denial_in v (opened s o) o.reading x) x.answer x.lost x.fault stop quit is.hearing.calls is.hearing.fits
+left_first v s o (Some x) stop e quit unlost is stops why = given_left v (opened s o) (heard v (opened s o) o.reading x.judged x.given) o.reading x.given x.judged
+    (denial_in v (opened s o) o.reading x) x.answer x.lost x.fault stop quit is.hearing.calls is.hearing.fits
     (rw unlost at (after_none (stop_before v s o) _ stop (no_stop (stop_before v s o) is.heard) stops)) why
 
 left_last : (v : Terms) (s : Standing) (o : Opening) (h : Option Hearing) (stop : Stop) → lost_after h ≡ None
-    → IsTurn v s (record { opening = o; hearing = h }) → stop_in v s (record { opening = o; hearing = h }) ≡ Some stop → HasAnswered v s (Some (record { opening = o; hearing = h })) → stop.why ≡ PeerLeft
+    → IsTurn v s (record { opening = o; hearing = h }) → stop_in v s (record { opening = o; hearing = h }) ≡ Some stop → HasAnswered v s (Some (record { opening = o; hearing = h }))
+    → stop.why ≡ PeerLeft
 left_last v s o None stop unlost is stops k = absurd k
-left_last v s o (Some x) stop unlost is stops k = answered_stops v (opened s o) (heard v (opened s o) o.reading x.judged x.given) o.reading x.given x.judged (denial_in v (opened s o) o.reading x) x.answer x.fault stop k.octets k.message k.gave k.had_memory k.put k.connected k.passes k.leaves is.hearing.calls
+left_last v s o (Some x) stop unlost is stops k = answered_stops v (opened s o) (heard v (opened s o) o.reading x.judged x.given) o.reading x.given x.judged
+    (denial_in v (opened s o) o.reading x) x.answer x.fault stop k.octets k.message k.gave k.had_memory k.put k.connected k.passes k.leaves is.hearing.calls
     (rw unlost at (after_none (stop_before v s o) _ stop (no_stop (stop_before v s o) is.heard) stops))
 
-pub peer_left_row : (v : Terms) (s : Standing) (o : Opening) (h : Option Hearing) (stop : Stop) → Ends (given_in h) (judged_in h) (answer_in h) (hearing_fault o.fault h) stop.why → Sound s → lost_after h ≡ None
+pub peer_left_row : (v : Terms) (s : Standing) (o : Opening) (h : Option Hearing) (stop : Stop) → Ends (given_in h) (judged_in h) (answer_in h) (hearing_fault o.fault h) stop.why → Sound s
+    → lost_after h ≡ None
     → IsTurn v s (record { opening = o; hearing = h }) → stop_in v s (record { opening = o; hearing = h }) ≡ Some stop → (after v s (record { opening = o; hearing = h })).ended ≡ None
     → stop.why ≡ PeerLeft ↔ HasAnswered v s (Some (record { opening = o; hearing = h }))
 peer_left_row v s o h stop e sound unlost is stops none = (

@@ -1,4 +1,5 @@
 -- What grows grows on, and puts behind puts.
+-- It serves clauses of most source files here.
 use Rattle.std.proofs.Common.{◌≡◌, ℕ, ◌+◌, List, [], ◌∷◌, ◌++◌, refl, ap, sym, ◌∙◌, append_assoc, append-nil, add_assoc, arith, Option, Some, None}
 use Rattle.bsc_edge.specs.declared.fault.LinkFault.{LinkFault}
 use Rattle.bsc_edge.specs.Told.{Grows, Stays}

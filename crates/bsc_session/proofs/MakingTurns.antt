@@ -1,5 +1,7 @@
 -- A turn is its opening, and then its hearing where the opening didn't stop the session.
-use Rattle.std.proofs.Common.{◌≡◌, ℕ, ◌+◌, ◌≤◌, ◌<◌, Bool, true, false, is_some, is_none, ◌&&◌, cond, List, [], ◌∷◌, zero, suc, refl, ap, sym, ◌∙◌, subst, append-nil, arith, Option, Some, None, Result, Ok, Err}
+-- It serves clauses of functions of `ending`, `serving` and `turning`.
+use Rattle.std.proofs.Common.{◌≡◌, ℕ, ◌+◌, ◌≤◌, ◌<◌, Bool, true, false, is_some, is_none, ◌&&◌, cond, List, [], ◌∷◌, zero, suc, refl, ap, sym, ◌∙◌, subst, append-nil, arith}
+use Rattle.std.proofs.Common.{Option, Some, None, Result, Ok, Err}
 use Rattle.std.specs.Prelude.{length, nat_lt, if◌then◌else◌}
 use Rattle.bsc_history.specs.declared.ending.End.{End}
 use Rattle.bsc_history.specs.declared.reply.Reply.TheVariants.{Joined, Refused}
@@ -11,9 +13,9 @@ use Rattle.bsc_edge.specs.declared.said.Said.{Said}
 use Rattle.bsc_accept.specs.declared.step.Step.{Step}
 use Rattle.bsc_accept.specs.declared.step.Step.TheVariants.{Ask}
 use Rattle.bsc_session.specs.declared.bounds.TheConstants.{TAKES}
-use Rattle.bsc_session.specs.declared.at.At.{At}
+use Rattle.bsc_session.specs.declared.session_state.SessionState.{SessionState}
 use Rattle.bsc_session.specs.declared.backlog.Backlog.{Backlog}
-use Rattle.bsc_session.specs.declared.member.Member.{Member}
+use Rattle.bsc_session.specs.declared.membership.Membership.{Membership}
 use Rattle.bsc_session.specs.declared.stop.Stop.{Stop}
 use Rattle.bsc_session.specs.Answering.{answered, said_hearing, step_of, stands_heard}
 use Rattle.bsc_edge.specs.declared.fault.LinkFault.{LinkFault}
@@ -45,13 +47,14 @@ use Rattle.bsc_session.proofs.Lists.{grows_as}
 use Rattle.bsc_session.proofs.Notifying.{after_receive}
 use Rattle.bsc_session.proofs.Losing.{line_behind, line_opening, lost_before, lost_hearing, wrote_hearing, wrote_opening}
 
-pub member_same : (p : Pass) (m n : Option Member) → SameMember m n → IsMember p m → IsMember p n
+pub member_same : (p : Pass) (m n : Option Membership) → SameMember m n → IsMember p m → IsMember p n
 member_same p None None h k = tt
 member_same p (Some m) (Some n) h k = rw (h.0, h.1, h.2) k
 member_same p None (Some n) h k = absurd h
 member_same p (Some m) None h k = absurd h
 
-pub held_opened : (h : Hub) (v : Terms) (s : Standing) (now : ℕ) (p : Pass) (a b : At) (old new : Option (List Said)) (pages pages' : Option (List ℕ)) (result : Result Backlog Stop) → Held h v p a s → (k : Opens v s now a b (traces old pages) (traces new pages') result) → Held h v p b (opened s k.opening)
+pub held_opened : (h : Hub) (v : Terms) (s : Standing) (now : ℕ) (p : Pass) (a b : SessionState) (old new : Option (List Said)) (pages pages' : Option (List ℕ))
+    (result : Result Backlog Stop) → Held h v p a s → (k : Opens v s now a b (traces old pages) (traces new pages') result) → Held h v p b (opened s k.opening)
 held_opened h v s now p a b old new pages pages' result held k = record {
   caller = held.caller;
   number = held.number;
@@ -60,14 +63,16 @@ held_opened h v s now p a b old new pages pages' result held k = record {
 }
 
 -- the opening stops the session
-pub makes_opening : (h : Hub) (v : Terms) (s : Standing) (now : ℕ) (p : Pass) (a b : At) (old new : Option (List Said)) (pages pages' : Option (List ℕ)) (stop : Stop) → s.receives < v.turns → Held h v p a s
+pub makes_opening : (h : Hub) (v : Terms) (s : Standing) (now : ℕ) (p : Pass) (a b : SessionState) (old new : Option (List Said)) (pages pages' : Option (List ℕ)) (stop : Stop)
+    → s.receives < v.turns → Held h v p a s
     → Opens v s now a b (traces old pages) (traces new pages') (Err stop) → Makes v s now h (moment p a old pages) (moment p b new pages') (Some stop)
 makes_opening h v s now p a b old new pages pages' stop room held k = record {
   turn = record { opening = k.opening; hearing = None };
   is = record { room = room; opening = k.is; heard = rw (sym k.stops) refl; hearing = tt };
   goes = goes_nowhere h p held.caller;
   gave = k.gave;
-  empties = (let e : empties_by b.member ≡ empties_by a.member + (if is_none k.opening.met && (false && (is_connected (ticked s k.opening.reading) && nat_lt (length k.opening.frames) TAKES)) then 1 else 0) = rw (sym k.stops) at k.empties in e);
+  empties = (let e : empties_by b.member ≡ empties_by a.member + (if is_none k.opening.met
+      && (false && (is_connected (ticked s k.opening.reading) && nat_lt (length k.opening.frames) TAKES)) then 1 else 0) = rw (sym k.stops) at k.empties in e);
   said = grows_as old new _ _ (sym (append-nil (puts (put_first v s k.opening) k.opening.fault))) k.said;
   read = k.read;
   wrote = wrote_opening v s p k.opening pages pages' (Some stop) k.is k.stops k.records;
@@ -79,15 +84,18 @@ makes_opening h v s now p a b old new pages pages' stop room held k = record {
 }
 
 -- and its link was told nothing
-pub tells_opening : (h : Hub) (v : Terms) (s : Standing) (now : ℕ) (p : Pass) (a b : At) (old new : Option (List Said)) (pages pages' : Option (List ℕ)) (stop : Stop) (n k : Option (List Notice)) → s.receives < v.turns → Held h v p a s
+pub tells_opening : (h : Hub) (v : Terms) (s : Standing) (now : ℕ) (p : Pass) (a b : SessionState) (old new : Option (List Said)) (pages pages' : Option (List ℕ)) (stop : Stop)
+    (n k : Option (List Notice)) → s.receives < v.turns → Held h v p a s
     → Opens v s now a b (traces old pages) (traces new pages') (Err stop) → k ≡ n → MakesTold v s now h (moment p a old pages) (moment p b new pages') n k (Some stop)
 unfolding makes_opening
 tells_opening h v s now p a b old new pages pages' stop n k room held o same =
     (makes_opening h v s now p a b old new pages pages' stop room held o, subst (λ (x : Option (List Notice)). Grows n x []) (sym same) (grows_none n))
 
 -- the opening goes on, and the session hears
-pub makes_hearing : (h : Hub) (v : Terms) (s : Standing) (now : ℕ) (p q : Pass) (a b c : At) (old mid new : Option (List Said)) (pages pages' pages'' : Option (List ℕ)) (stop : Option Stop) (backlog : Backlog) (wait : ℕ) → s.receives < v.turns
-    → (k : Opens v s now a b (traces old pages) (traces mid pages') (Ok backlog)) → wait ≡ wait_by (is_more backlog) → Hears v (opened s k.opening) now wait h (moment p b mid pages') (moment q c new pages'') stop
+pub makes_hearing : (h : Hub) (v : Terms) (s : Standing) (now : ℕ) (p q : Pass) (a b c : SessionState) (old mid new : Option (List Said)) (pages pages' pages'' : Option (List ℕ))
+    (stop : Option Stop) (backlog : Backlog) (wait : ℕ) → s.receives < v.turns
+    → (k : Opens v s now a b (traces old pages) (traces mid pages') (Ok backlog)) → wait ≡ wait_by (is_more backlog)
+    → Hears v (opened s k.opening) now wait h (moment p b mid pages') (moment q c new pages'') stop
     → Makes v s now h (moment p a old pages) (moment q c new pages'') stop
 makes_hearing h v s now p q a b c old mid new pages pages' pages'' stop backlog wait room k waits hears =
     let w : wait ≡ wait_in k.opening = waits ∙ ap wait_by k.more in
@@ -100,7 +108,8 @@ makes_hearing h v s now p q a b c old mid new pages pages' pages'' stop backlog 
       goes = l.goes;
       gave = l.given_same ∙ k.gave;
       empties = l.empties_same ∙ (
-          let e : empties_by b.member ≡ empties_by a.member + (if is_none k.opening.met && (true && (is_connected (ticked s k.opening.reading) && nat_lt (length k.opening.frames) TAKES)) then 1 else 0) = rw (sym k.stops) at k.empties in e);
+          let e : empties_by b.member ≡ empties_by a.member + (if is_none k.opening.met
+          && (true && (is_connected (ticked s k.opening.reading) && nat_lt (length k.opening.frames) TAKES)) then 1 else 0) = rw (sym k.stops) at k.empties in e);
       said = grows_then old mid new (puts (put_first v s k.opening) k.opening.fault) (said_hearing v (opened s k.opening) k.opening.reading (wait_in k.opening) l.hearing) k.said l.said;
       read = k.read;
       wrote = rw same at (wrote_hearing v s p q k.opening l.hearing pages pages' pages'' (rw unlost at k.records) l.goes.sees l.wrote l.is.line);
@@ -112,7 +121,8 @@ makes_hearing h v s now p q a b c old mid new pages pages' pages'' stop backlog 
     }
 
 -- and its link was asked once, and then told what follows from the entries of that turn
-pub tells_hearing : (h : Hub) (v : Terms) (s : Standing) (now : ℕ) (p q : Pass) (a b c : At) (old mid new : Option (List Said)) (pages pages' pages'' : Option (List ℕ)) (stop : Option Stop) (backlog : Backlog) (wait : ℕ) (n k l : Option (List Notice))
+pub tells_hearing : (h : Hub) (v : Terms) (s : Standing) (now : ℕ) (p q : Pass) (a b c : SessionState) (old mid new : Option (List Said)) (pages pages' pages'' : Option (List ℕ))
+    (stop : Option Stop) (backlog : Backlog) (wait : ℕ) (n k l : Option (List Notice))
     → s.receives < v.turns → (o : Opens v s now a b (traces old pages) (traces mid pages') (Ok backlog)) → wait ≡ wait_by (is_more backlog)
     → Hears v (opened s o.opening) now wait h (moment p b mid pages') (moment q c new pages'') stop → k ≡ n → AsksOnce p q k l
     → MakesTold v s now h (moment p a old pages) (moment q c new pages'') n l stop
@@ -151,7 +161,8 @@ heard_one v s now h = ap (λ k. k + 1) (heard_by v s now h.judged h.given)
 
 receives_heard : (v : Terms) (s : Standing) (o : Opening) (h : Option Hearing) → is_some h ≡ true → (after v s (record { opening = o; hearing = h })).receives ≡ s.receives + 1
 receives_heard v s o None some = cc
-receives_heard v s o (Some h) some = receives_answered (stands_heard v (opened s o) o.reading h) (step_of v (opened s o) o.reading h) h.answer ∙ heard_one v (opened s o) o.reading h ∙ ap (λ k. k + 1) (receives_opened s o)
+receives_heard v s o (Some h) some = receives_answered (stands_heard v (opened s o) o.reading h) (step_of v (opened s o) o.reading h) h.answer ∙ heard_one v (opened s o) o.reading h
+    ∙ ap (λ k. k + 1) (receives_opened s o)
 
 none_first : (a b : Option Stop) → None ≡ first_of a b → is_none a ≡ true
 none_first None b h = refl
@@ -162,7 +173,8 @@ at_most_one true = omega arith
 at_most_one false = omega arith
 
 -- a turn that goes on has received
-pub receives_more : (v : Terms) (s : Standing) (h : Hub) (p q : Pass) (a b : At) (now : ℕ) (old new : Option (List Said)) (pages pages' : Option (List ℕ)) → (k : Makes v s now h (moment p a old pages) (moment q b new pages') None) → (after v s k.turn).receives ≡ s.receives + 1
+pub receives_more : (v : Terms) (s : Standing) (h : Hub) (p q : Pass) (a b : SessionState) (now : ℕ) (old new : Option (List Said)) (pages pages' : Option (List ℕ))
+    → (k : Makes v s now h (moment p a old pages) (moment q b new pages') None) → (after v s k.turn).receives ≡ s.receives + 1
 receives_more v s h p q a b now old new pages pages' k =
     let some : is_some k.turn.hearing ≡ true = k.is.heard ∙ none_first (stop_before v s k.turn.opening) _ k.stops in
     receives_heard v s k.turn.opening k.turn.hearing some
@@ -181,25 +193,30 @@ started_later : (s : Standing) (now : ℕ) → (s.receives ≡ 0 → ⊥) → st
 started_later s now more = (let begun_at : ℕ → Standing = λ k. record s { start = k } in ap begun_at (kept_start s.receives s.start now more))
 
 -- the next turn begins at any reading
-pub starts_more : (v : Terms) (s : Standing) (h : Hub) (p q : Pass) (a b : At) (now next : ℕ) (old new : Option (List Said)) (pages pages' : Option (List ℕ)) → Starts v s now a → (k : Makes v s now h (moment p a old pages) (moment q b new pages') None) → Starts v (after v s k.turn) next b
+pub starts_more : (v : Terms) (s : Standing) (h : Hub) (p q : Pass) (a b : SessionState) (now next : ℕ) (old new : Option (List Said)) (pages pages' : Option (List ℕ)) → Starts v s now a
+    → (k : Makes v s now h (moment p a old pages) (moment q b new pages') None) → Starts v (after v s k.turn) next b
 starts_more v s h p q a b now next old new pages pages' starts k =
     let more = receives_more v s h p q a b now old new pages pages' k in
     record {
       runs = subst (λ (t : Standing). SessionRuns v b t) (sym (started_later (after v s k.turn) next (not_zero (after v s k.turn).receives s.receives more))) (k.runs refl);
-      bounded = (let e : empties_by b.member ≡ empties_by a.member + empties_in v s k.turn = k.empties in let x = starts.bounded in let o = at_most_one (is_none k.turn.opening.met && (is_some k.turn.hearing && (is_connected (ticked s k.turn.opening.reading) && nat_lt (length k.turn.opening.frames) TAKES))) in omega (arith, e, x, o, more));
+      bounded = (let e : empties_by b.member ≡ empties_by a.member + empties_in v s k.turn = k.empties in let x = starts.bounded in
+          let o = at_most_one (is_none k.turn.opening.met && (is_some k.turn.hearing && (is_connected (ticked s k.turn.opening.reading) && nat_lt (length k.turn.opening.frames) TAKES))) in
+          omega (arith, e, x, o, more));
     }
 
-pub follows_started : (s : Standing) (now : ℕ) (a : At) → Follows a s → Follows a (started s now)
+pub follows_started : (s : Standing) (now : ℕ) (a : SessionState) → Follows a s → Follows a (started s now)
 follows_started s now a f = record { conn = f.conn; address = f.address; ended = f.ended; receives = f.receives; found = f.found }
 
-pub followed_started : (v : Terms) (s : Standing) (now : ℕ) (a : At) → Follows a s → Starts v s now a → IsFollowed a
+pub followed_started : (v : Terms) (s : Standing) (now : ℕ) (a : SessionState) → Follows a s → Starts v s now a → IsFollowed a
 followed_started v s now a f st = (v, started s now, follows_started s now a f, st.runs)
 
-pub room_started : (v : Terms) (s : Standing) (now : ℕ) (a : At) → Starts v s now a → Follows a s → a.receives < 18446744073709551615 → empties_by a.member < 18446744073709551615
+pub room_started : (v : Terms) (s : Standing) (now : ℕ) (a : SessionState) → Starts v s now a → Follows a s → a.receives < 18446744073709551615 → empties_by a.member < 18446744073709551615
 room_started v s now a st f room = (let x = st.bounded in let r = f.receives in omega (arith, x, r, room))
 
-pub standing_opened : (h : Hub) (v : Terms) (s : Standing) (now : ℕ) (p : Pass) (a b : At) (old new : Option (List Said)) (pages pages' : Option (List ℕ)) (result : Result Backlog Stop) → stop_of result ≡ None → Held h v p a s → Opens v s now a b (traces old pages) (traces new pages') result → HasStanding h p b
+pub standing_opened : (h : Hub) (v : Terms) (s : Standing) (now : ℕ) (p : Pass) (a b : SessionState) (old new : Option (List Said)) (pages pages' : Option (List ℕ))
+    (result : Result Backlog Stop) → stop_of result ≡ None → Held h v p a s → Opens v s now a b (traces old pages) (traces new pages') result → HasStanding h p b
 standing_opened h v s now p a b old new pages pages' result going held k = (v, opened s k.opening, held_opened h v s now p a b old new pages pages' result held k, k.runs going)
 
-pub room_opened : (h : Hub) (v : Terms) (s : Standing) (now : ℕ) (p : Pass) (a b : At) (old new : Option (List Said)) (pages pages' : Option (List ℕ)) (result : Result Backlog Stop) → Held h v p a s → Opens v s now a b (traces old pages) (traces new pages') result → a.receives < 18446744073709551615 → b.receives < 18446744073709551615
+pub room_opened : (h : Hub) (v : Terms) (s : Standing) (now : ℕ) (p : Pass) (a b : SessionState) (old new : Option (List Said)) (pages pages' : Option (List ℕ))
+    (result : Result Backlog Stop) → Held h v p a s → Opens v s now a b (traces old pages) (traces new pages') result → a.receives < 18446744073709551615 → b.receives < 18446744073709551615
 room_opened h v s now p a b old new pages pages' result held k room = (let e : b.receives ≡ a.receives = k.follows.receives ∙ receives_opened s k.opening ∙ sym held.follows.receives in rw e room)

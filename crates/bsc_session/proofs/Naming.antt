@@ -1,9 +1,10 @@
 -- The cause of a session's end, by the stop of its course and by the End that was met.
+-- It serves the clauses of `causes_are_exact` and `serve`.
 use Rattle.std.proofs.Common.{◌≡◌, ◌↔◌, ℕ, List, refl, ap, sym, ◌∙◌, inl, inr, Option, Some, None}
 use Rattle.std.specs.Prelude.{⊤}
 use Rattle.bsc_history.specs.declared.ending.End.{End}
 use Rattle.bsc_history.specs.declared.entry.Entry.{Entry}
-use Rattle.bsc_notes.specs.Notes.{HasLine}
+use Rattle.bsc_session.specs.Notes.Notes.{HasLine}
 use Rattle.bsc_edge.specs.declared.fault.LinkFault.{LinkFault}
 use Rattle.bsc_edge.specs.declared.fault.LinkFault.TheVariants.{Failed}
 use Rattle.bsc_session.specs.MakingTurns.{lost_by}
@@ -12,7 +13,8 @@ use Rattle.bsc_session.specs.Taking.{Opening, opened, stop_before}
 use Rattle.bsc_session.specs.declared.stop.Stop.{Stop}
 use Rattle.bsc_session.specs.declared.why.Why.{Why}
 use Rattle.bsc_session.specs.declared.why.Why.TheVariants.{PeerClosed, NotBinary, PeerLeft, Refused, WaitExpired, Idle, EndedBy, Worn, LinkFault as WhyLinkFault, JournalFault, NoMemory, Spent, Denied}
-use Rattle.bsc_session.specs.Causes.{AreExact, AreExactBy, CausesAreExact, EndsOtherwise, HasAnswered, HasIdled, HasWaited, IsDenied, LacksMemory, answer_in, given_in, hearing_fault, judged_in, last_fault}
+use Rattle.bsc_session.specs.Causes.{AreExact, AreExactBy, CausesAreExact, EndsOtherwise, HasAnswered, HasIdled, HasWaited, IsDenied, LacksMemory, answer_in, given_in}
+use Rattle.bsc_session.specs.Causes.{hearing_fault, judged_in, last_fault}
 use Rattle.bsc_session.specs.Course.{EachTurn, SessionCourse, Stops, and_last, end_of, standing}
 use Rattle.bsc_session.specs.Standings.{Standing, Terms, begun}
 use Rattle.bsc_session.specs.Talk.{first_lost, named, named_lost, noted_leaving}
@@ -116,7 +118,8 @@ record StopsBy (v : Terms) (s : Standing) (t : Turn) (d : Option End) (w : Why) 
   idled : d ≡ None → (w ≡ Idle ↔ HasIdled v s (Some t))
 
 -- no line of a turn was lost whose stop has none
-unlost_after : (v : Terms) (s : Standing) (o : Opening) (h : Option Hearing) (stop : Stop) → stop.lost ≡ None → IsTurn v s (record { opening = o; hearing = h }) → stop_in v s (record { opening = o; hearing = h }) ≡ Some stop
+unlost_after : (v : Terms) (s : Standing) (o : Opening) (h : Option Hearing) (stop : Stop) → stop.lost ≡ None → IsTurn v s (record { opening = o; hearing = h })
+    → stop_in v s (record { opening = o; hearing = h }) ≡ Some stop
     → (o.lost ≡ None) × (lost_after h ≡ None)
 unlost_after v s o None stop unlost is stops = (sym (lost_before v s o is.opening) ∙ ap lost_by (sym (alone (stop_before v s o)) ∙ stops) ∙ unlost, refl)
 unlost_after v s o (Some h) stop unlost is stops =
@@ -185,7 +188,8 @@ exact_spent v s d =
 exact : (v : Terms) (ts : List Turn) (last : Option Turn) (stop : Stop) → stop.lost ≡ None → EachTurn IsTurn v begun (and_last ts last) → Stops v (standing v begun ts) last stop
     → AreExact v (standing v begun ts) last (standing v begun (and_last ts last)).ended (named (standing v begun (and_last ts last)).ended stop.why)
 exact v ts None stop unlost are stops = rw (stops.1) (exact_spent v (standing v begun ts) (standing v begun ts).ended)
-exact v ts (Some t) stop unlost are stops = rw (standing-more v begun ts t) (exact_turn v (standing v begun ts) t _ stop.why (stops_by v (standing v begun ts) t stop unlost (sound_turns v begun ts sound_begun) (each_last IsTurn v begun ts t are) stops))
+exact v ts (Some t) stop unlost are stops = rw (standing-more v begun ts t)
+    (exact_turn v (standing v begun ts) t _ stop.why (stops_by v (standing v begun ts) t stop unlost (sound_turns v begun ts sound_begun) (each_last IsTurn v begun ts t are) stops))
 
 exact_by : (v : Terms) (c : SessionCourse v) (left : Option LinkFault) → ((f : LinkFault) → c.stop.lost ≡ Some f → left ≡ None)
     → AreExactBy v (standing v begun c.went_on) c.last (end_of c).ended (first_lost c.stop.lost left) (named_lost left (named (end_of c).ended c.stop.why))

@@ -1,4 +1,5 @@
 -- What the link is told follows from the entries that are made.
+-- It serves clauses of most source files here.
 use Rattle.std.proofs.Common.{◌≡◌, ℕ, true, List, [], ◌∷◌, ◌++◌, refl, ap, sym, ◌∙◌, append-nil, append_assoc, Option, Some, None, is_some}
 use Rattle.bsc_history.specs.declared.entry.Entry.{Entry}
 use Rattle.bsc_turn.specs.declared.pass.Pass.{Pass}

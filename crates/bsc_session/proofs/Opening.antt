@@ -1,5 +1,7 @@
 -- A turn's opening: the time, and what the outlet has.
-use Rattle.std.proofs.Common.{◌≡◌, ◌≢◌, ◌<◌, ℕ, Bool, true, false, not, cond, is_some, List, [], ◌++◌, length, map, refl, ap, sym, subst, ◌∙◌, append-nil, arith, inl, inr, lit≤, Option, Some, None, Result, Ok, Err}
+-- It serves clauses of functions of `taking` and `turning`.
+use Rattle.std.proofs.Common.{◌≡◌, ◌≢◌, ◌<◌, ℕ, Bool, true, false, not, cond, is_some, List, [], ◌++◌, length, map, refl, ap, sym, subst, ◌∙◌, append-nil, arith, inl, inr, lit≤}
+use Rattle.std.proofs.Common.{Option, Some, None, Result, Ok, Err}
 use Rattle.std.specs.Prelude.{nat_lt}
 use Rattle.std.proofs.lemmas.Bool.{lt-ltb}
 use Rattle.bsc_policy.specs.declared.policy.Policy.{Policy}
@@ -23,18 +25,18 @@ use Rattle.bsc_accept.specs.Standing.{AcceptingAnswers, AcceptingStands, LeavesA
 use Rattle.bsc_accept.specs.Steps.{ended_step, normal, tick_step}
 use Rattle.bsc_accept.specs.Waits.{connect_wait_is_over, disconnect_wait_is_over, is_idle}
 use Rattle.bsc_session.specs.declared.bounds.TheConstants.{TAKES}
-use Rattle.bsc_session.specs.declared.at.At.{At}
+use Rattle.bsc_session.specs.declared.session_state.SessionState.{SessionState}
 use Rattle.bsc_session.specs.declared.backlog.Backlog.{Backlog}
 use Rattle.bsc_session.specs.declared.backlog.Backlog.TheVariants.{MaybeMore, Nothing as NothingLeft}
-use Rattle.bsc_session.specs.declared.member.Member.{Member}
+use Rattle.bsc_session.specs.declared.membership.Membership.{Membership}
 use Rattle.bsc_session.specs.declared.stop.Stop.{Stop}
 use Rattle.bsc_session.specs.declared.taken.Taken.{Taken}
 use Rattle.bsc_session.specs.declared.taken.Taken.TheVariants.{All, Part, Met, Cut, Lost}
 use Rattle.bsc_session.specs.declared.why.Why.{Why}
 use Rattle.bsc_session.specs.declared.why.Why.TheVariants.{EndedBy}
 use Rattle.bsc_session.specs.Answering.{calls}
-use Rattle.bsc_notes.specs.Notes.{HasLine, Records, denied}
-use Rattle.bsc_notes.proofs.Common.{no_line}
+use Rattle.bsc_session.specs.Notes.Notes.{HasLine, Records, denied}
+use Rattle.bsc_session.proofs.NoteFacts.Common.{no_line}
 use Rattle.bsc_session.specs.Guarding.{denials, let_through}
 use Rattle.bsc_session.specs.CarryingOut.{Carries, TellsMore, is_more, stop_of}
 use Rattle.bsc_session.specs.Following.{Follows, HasFound, OutletHasEnded, SessionRuns, Tied, address_by, conn_of, given_by}
@@ -63,11 +65,13 @@ tick_calls s last now awaiting_request = cond_calls (connect_wait_is_over s now)
 tick_calls s last now connected = cond_calls (is_idle s last now) _
 tick_calls s last now (disconnecting f) = cond_calls (disconnect_wait_is_over s f now) normal
 
-follows_told : (a : At) (s : Standing) (m : Accepting) (now : ℕ) → Follows a s → Follows (record { machine = m; member = a.member; ended = a.ended; receives = a.receives }) (told s (Tick now))
+follows_told : (a : SessionState) (s : Standing) (m : Accepting) (now : ℕ) → Follows a s
+    → Follows (record { machine = m; member = a.member; ended = a.ended; receives = a.receives }) (told s (Tick now))
 follows_told a s m now f = record { conn = f.conn; address = f.address; ended = f.ended; receives = f.receives; found = f.found }
 
 -- the reading closes the session
-pub ticks_closed : (v : Terms) (s : Standing) (now : ℕ) (a : At) (m : Accepting) (st : Step) (c : Closing) (why : Why) (stop : Stop) → Follows a s → SessionRuns v a s → AcceptingAnswers a.machine m (Tick now) st
+pub ticks_closed : (v : Terms) (s : Standing) (now : ℕ) (a : SessionState) (m : Accepting) (st : Step) (c : Closing) (why : Why) (stop : Stop) → Follows a s → SessionRuns v a s
+    → AcceptingAnswers a.machine m (Tick now) st
     → closing_in st ≡ Some c → why ≡ waiting_for (conn_of a.member) → stop ≡ stop_for why (Some c)
     → Ticks v s now a (record { machine = m; member = a.member; ended = a.ended; receives = a.receives }) (Some stop)
 ticks_closed v s now a m st c why stop f r answers closing waits is =
@@ -77,7 +81,7 @@ ticks_closed v s now a m st c why stop f r answers closing waits is =
     record { member = refl; stops = rw (k, is, w) refl; follows = follows_told a s m now f; runs = λ going. cc }
 
 -- it doesn't
-pub ticks_on : (v : Terms) (s : Standing) (now : ℕ) (a : At) (m : Accepting) (st : Step) → Follows a s → SessionRuns v a s → AcceptingAnswers a.machine m (Tick now) st → LeavesAccepting st m
+pub ticks_on : (v : Terms) (s : Standing) (now : ℕ) (a : SessionState) (m : Accepting) (st : Step) → Follows a s → SessionRuns v a s → AcceptingAnswers a.machine m (Tick now) st → LeavesAccepting st m
     → closing_in st ≡ None → Ticks v s now a (record { machine = m; member = a.member; ended = a.ended; receives = a.receives }) None
 ticks_on v s now a m st f r answers left closing =
     let does = answers (start_of v s) s.events r.machine in
@@ -98,11 +102,13 @@ ticks_on v s now a m st f r answers left closing =
 
 -- ---- the taking
 
-keep_end : (e : Option End) (m : Member) (p : Outlet) → ((d : End) → OutletHasEnded m.outlet d → OutletHasEnded p d) → HasFound e (Some m) → HasFound e (Some (record { conn = m.conn; address = m.address; outlet = p }))
+keep_end : (e : Option End) (m : Membership) (p : Outlet) → ((d : End) → OutletHasEnded m.outlet d → OutletHasEnded p d) → HasFound e (Some m)
+    → HasFound e (Some (record { conn = m.conn; address = m.address; outlet = p }))
 keep_end None m p keeps h = tt
 keep_end (Some d) m p keeps h = keeps d h
 
-pub takes_from : (policy : Option Policy) (m : Member) (p : Outlet) (old new : Option (List Said)) (pages pages' : Option (List ℕ)) (taken : Taken) → Takes policy m.address m.outlet p (traces old pages) (traces new pages') taken
+pub takes_from : (policy : Option Policy) (m : Membership) (p : Outlet) (old new : Option (List Said)) (pages pages' : Option (List ℕ)) (taken : Taken)
+    → Takes policy m.address m.outlet p (traces old pages) (traces new pages') taken
     → TakesFrom policy (Some m) (Some (record { conn = m.conn; address = m.address; outlet = p })) (traces old pages) (traces new pages') taken
 takes_from policy m p old new pages pages' taken t = record {
   frames = t.frames;
@@ -120,49 +126,62 @@ takes_from policy m p old new pages pages' taken t = record {
   line = t.line;
 }
 
-address_same : (m n : Option Member) → SameMember m n → address_by n ≡ address_by m
+address_same : (m n : Option Membership) → SameMember m n → address_by n ≡ address_by m
 address_same None None h = refl
 address_same (Some m) (Some n) h = ap (λ x. Some x) h.1
 address_same None (Some n) h = absurd h
 address_same (Some m) None h = absurd h
 
-conn_same : (m n : Option Member) → SameMember m n → conn_of n ≡ conn_of m
+conn_same : (m n : Option Membership) → SameMember m n → conn_of n ≡ conn_of m
 conn_same None None h = refl
 conn_same (Some m) (Some n) h = ap (λ x. Some x) h.0
 conn_same None (Some n) h = absurd h
 conn_same (Some m) None h = absurd h
 
-follows_taken : (a : At) (n : Option Member) (s : Standing) → SameMember a.member n → ((e : Option End) → HasFound e a.member → HasFound e n) → Follows a s → Follows (record { machine = a.machine; member = n; ended = a.ended; receives = a.receives }) s
-follows_taken a n s same keeps f = record { conn = conn_same a.member n same ∙ f.conn; address = address_same a.member n same ∙ f.address; ended = f.ended; receives = f.receives; found = keeps a.ended f.found }
+follows_taken : (a : SessionState) (n : Option Membership) (s : Standing) → SameMember a.member n → ((e : Option End) → HasFound e a.member → HasFound e n) → Follows a s
+    → Follows (record { machine = a.machine; member = n; ended = a.ended; receives = a.receives }) s
+follows_taken a n s same keeps f = record {
+  conn = conn_same a.member n same ∙ f.conn;
+  address = address_same a.member n same ∙ f.address;
+  ended = f.ended;
+  receives = f.receives;
+  found = keeps a.ended f.found;
+}
 
 -- what a policy lets through to a connection, and what is noted of the others, by the session that follows it
-passing_so : (v : Terms) (s : Standing) (policy : Option Policy) (m : Option Member) (frames : List (List ℕ)) → v.policy ≡ policy → address_by m ≡ s.address
+passing_so : (v : Terms) (s : Standing) (policy : Option Policy) (m : Option Membership) (frames : List (List ℕ)) → v.policy ≡ policy → address_by m ≡ s.address
     → let_through policy (address_by m) frames ≡ passing v s frames
 passing_so v s policy m frames fixed there = ap (λ x. let_through x (address_by m) frames) (sym fixed) ∙ ap (λ x. let_through v.policy x frames) there
 
-noted_so : (v : Terms) (s : Standing) (policy : Option Policy) (m : Option Member) (frames : List (List ℕ)) → v.policy ≡ policy → address_by m ≡ s.address
+noted_so : (v : Terms) (s : Standing) (policy : Option Policy) (m : Option Membership) (frames : List (List ℕ)) → v.policy ≡ policy → address_by m ≡ s.address
     → map denied (denials policy (address_by m) frames) ≡ noted_of v s frames
 noted_so v s policy m frames fixed there = ap (λ x. map denied (denials x (address_by m) frames)) (sym fixed) ∙ ap (λ x. map denied (denials v.policy x frames)) there
 
 -- the puts of a taking that met no End
-said_so : (v : Terms) (s : Standing) (policy : Option Policy) (m n : Option Member) (old new : Option (List Said)) (pages pages' : Option (List ℕ)) (taken : Taken) → v.policy ≡ policy → address_by m ≡ s.address
+said_so : (v : Terms) (s : Standing) (policy : Option Policy) (m n : Option Membership) (old new : Option (List Said)) (pages pages' : Option (List ℕ)) (taken : Taken) → v.policy ≡ policy
+    → address_by m ≡ s.address
     → (t : TakesFrom policy m n (traces old pages) (traces new pages') taken) → Grows old new (puts (passing v s t.frames ++ []) (cut_in taken))
-said_so v s policy m n old new pages pages' taken fixed there t = grows_as old new _ _ (ap (λ w. puts w (cut_in taken)) (passing_so v s policy m t.frames fixed there ∙ sym (append-nil (passing v s t.frames)))) t.said
+said_so v s policy m n old new pages pages' taken fixed there t = grows_as old new _ _
+    (ap (λ w. puts w (cut_in taken)) (passing_so v s policy m t.frames fixed there ∙ sym (append-nil (passing v s t.frames)))) t.said
 
-cause_so : (v : Terms) (s : Standing) (policy : Option Policy) (m n : Option Member) (old new : Option (List Said)) (pages pages' : Option (List ℕ)) (taken : Taken) → v.policy ≡ policy → address_by m ≡ s.address
+cause_so : (v : Terms) (s : Standing) (policy : Option Policy) (m n : Option Membership) (old new : Option (List Said)) (pages pages' : Option (List ℕ)) (taken : Taken) → v.policy ≡ policy
+    → address_by m ≡ s.address
     → (t : TakesFrom policy m n (traces old pages) (traces new pages') taken) → HasPut (passing v s (last_alone t.frames)) (cut_in taken)
 cause_so v s policy m n old new pages pages' taken fixed there t = subst (λ w. HasPut w (cut_in taken)) (passing_so v s policy m (last_alone t.frames) fixed there) t.cause
 
-records_so : (v : Terms) (s : Standing) (policy : Option Policy) (m n : Option Member) (old new : Option (List Said)) (pages pages' : Option (List ℕ)) (taken : Taken) → v.policy ≡ policy → address_by m ≡ s.address
+records_so : (v : Terms) (s : Standing) (policy : Option Policy) (m n : Option Membership) (old new : Option (List Said)) (pages pages' : Option (List ℕ)) (taken : Taken) → v.policy ≡ policy
+    → address_by m ≡ s.address
     → (t : TakesFrom policy m n (traces old pages) (traces new pages') taken) → Records pages pages' (noted_of v s t.frames) (unput_in taken)
 records_so v s policy m n old new pages pages' taken fixed there t = subst (λ w. Records pages pages' w (unput_in taken)) (noted_so v s policy m t.frames fixed there) t.records
 
-line_so : (v : Terms) (s : Standing) (policy : Option Policy) (m n : Option Member) (old new : Option (List Said)) (pages pages' : Option (List ℕ)) (taken : Taken) → v.policy ≡ policy → address_by m ≡ s.address
+line_so : (v : Terms) (s : Standing) (policy : Option Policy) (m n : Option Membership) (old new : Option (List Said)) (pages pages' : Option (List ℕ)) (taken : Taken) → v.policy ≡ policy
+    → address_by m ≡ s.address
     → (t : TakesFrom policy m n (traces old pages) (traces new pages') taken) → HasLine (noted_of v s (last_alone t.frames)) (unput_in taken)
 line_so v s policy m n old new pages pages' taken fixed there t = subst (λ w. HasLine w (unput_in taken)) (noted_so v s policy m (last_alone t.frames) fixed there) t.line
 
 -- no End and no fault came, and no line was lost
-attends_on : (v : Terms) (s : Standing) (now : ℕ) (policy : Option Policy) (a : At) (n : Option Member) (old new : Option (List Said)) (pages pages' : Option (List ℕ)) (taken : Taken) (backlog : Backlog)
+attends_on : (v : Terms) (s : Standing) (now : ℕ) (policy : Option Policy) (a : SessionState) (n : Option Membership) (old new : Option (List Said)) (pages pages' : Option (List ℕ))
+    (taken : Taken) (backlog : Backlog)
     → v.policy ≡ policy → met_in taken ≡ None → cut_in taken ≡ None → unput_in taken ≡ None
     → (t : TakesFrom policy a.member n (traces old pages) (traces new pages') taken) → is_more backlog ≡ may_be_more t.frames None
     → Follows a s → SessionRuns v a s
@@ -195,19 +214,20 @@ many_more : (frames : List (List ℕ)) → length frames ≡ TAKES → true ≡ 
 many_more frames many = ap (λ (n : ℕ). not (nat_lt n TAKES)) (sym many)
 
 -- nothing more was there
-pub attends_all : (v : Terms) (s : Standing) (now : ℕ) (policy : Option Policy) (a : At) (n : Option Member) (old new : Option (List Said)) (pages pages' : Option (List ℕ))
+pub attends_all : (v : Terms) (s : Standing) (now : ℕ) (policy : Option Policy) (a : SessionState) (n : Option Membership) (old new : Option (List Said)) (pages pages' : Option (List ℕ))
     → v.policy ≡ policy → TakesFrom policy a.member n (traces old pages) (traces new pages') All → Follows a s → SessionRuns v a s
     → Attends v s now a (record { machine = a.machine; member = n; ended = a.ended; receives = a.receives }) (traces old pages) (traces new pages') (Ok NothingLeft)
 attends_all v s now policy a n old new pages pages' fixed t f r = attends_on v s now policy a n old new pages pages' All NothingLeft fixed refl refl refl t (few_more t.frames t.fits) f r
 
 -- there may be more
-pub attends_part : (v : Terms) (s : Standing) (now : ℕ) (policy : Option Policy) (a : At) (n : Option Member) (old new : Option (List Said)) (pages pages' : Option (List ℕ))
+pub attends_part : (v : Terms) (s : Standing) (now : ℕ) (policy : Option Policy) (a : SessionState) (n : Option Membership) (old new : Option (List Said)) (pages pages' : Option (List ℕ))
     → v.policy ≡ policy → TakesFrom policy a.member n (traces old pages) (traces new pages') Part → Follows a s → SessionRuns v a s
     → Attends v s now a (record { machine = a.machine; member = n; ended = a.ended; receives = a.receives }) (traces old pages) (traces new pages') (Ok MaybeMore)
 attends_part v s now policy a n old new pages pages' fixed t f r = attends_on v s now policy a n old new pages pages' Part MaybeMore fixed refl refl refl t (many_more t.frames t.fits) f r
 
 -- the taking was cut off by a fault
-pub attends_cut : (v : Terms) (s : Standing) (now : ℕ) (policy : Option Policy) (a : At) (n : Option Member) (old new : Option (List Said)) (pages pages' : Option (List ℕ)) (fault : LinkFault) (stop : Stop)
+pub attends_cut : (v : Terms) (s : Standing) (now : ℕ) (policy : Option Policy) (a : SessionState) (n : Option Membership) (old new : Option (List Said)) (pages pages' : Option (List ℕ))
+    (fault : LinkFault) (stop : Stop)
     → v.policy ≡ policy → TakesFrom policy a.member n (traces old pages) (traces new pages') (Cut fault) → Follows a s → stop ≡ stop_at fault
     → Attends v s now a (record { machine = a.machine; member = n; ended = a.ended; receives = a.receives }) (traces old pages) (traces new pages') (Err stop)
 attends_cut v s now policy a n old new pages pages' fault stop fixed t f is = record {
@@ -231,7 +251,8 @@ attends_cut v s now policy a n old new pages pages' fault stop fixed t f is = re
 }
 
 -- the taking was cut off by a line that wasn't put
-pub attends_lost : (v : Terms) (s : Standing) (now : ℕ) (policy : Option Policy) (a : At) (n : Option Member) (old new : Option (List Said)) (pages pages' : Option (List ℕ)) (fault : LinkFault) (stop : Stop)
+pub attends_lost : (v : Terms) (s : Standing) (now : ℕ) (policy : Option Policy) (a : SessionState) (n : Option Membership) (old new : Option (List Said)) (pages pages' : Option (List ℕ))
+    (fault : LinkFault) (stop : Stop)
     → v.policy ≡ policy → TakesFrom policy a.member n (traces old pages) (traces new pages') (Lost fault) → Follows a s → stop ≡ stop_unrecorded fault
     → Attends v s now a (record { machine = a.machine; member = n; ended = a.ended; receives = a.receives }) (traces old pages) (traces new pages') (Err stop)
 attends_lost v s now policy a n old new pages pages' fault stop fixed t f is = record {
@@ -259,7 +280,8 @@ ended_calls Full = refl
 ended_calls e = refl
 
 -- the machine was told an End
-pub meets : (v : Terms) (s : Standing) (now : ℕ) (e : End) (a : At) (m : Accepting) (st : Step) (old new : Option (List Said)) (stop : Option Stop) → AcceptingStands a.machine (start_of v s) s.events → Tied s
+pub meets : (v : Terms) (s : Standing) (now : ℕ) (e : End) (a : SessionState) (m : Accepting) (st : Step) (old new : Option (List Said)) (stop : Option Stop)
+    → AcceptingStands a.machine (start_of v s) s.events → Tied s
     → AcceptingAnswers a.machine m (Ended now e) st → LeavesAccepting st m → Carries old new st (EndedBy e) stop
     → Carries old new (wanted v s (Ended now e)) (EndedBy e) stop × MeetsEnd v s now e a (record { machine = m; member = a.member; ended = Some e; receives = a.receives }) stop
 meets v s now e a m st old new stop stood tied answers left carried =
@@ -271,7 +293,11 @@ meets v s now e a m st old new stop stood tied answers left carried =
         member = refl;
         ended = refl;
         receives = refl;
-        runs = λ going. record { machine = does.1; waits = left_open (wanted v s (Ended now e)) m k.fault (EndedBy e) stop l (ended_calls e) k.stops going; tied = tied_told s (Ended now e) refl tied };
+        runs = λ going. record {
+          machine = does.1;
+          waits = left_open (wanted v s (Ended now e)) m k.fault (EndedBy e) stop l (ended_calls e) k.stops going;
+          tied = tied_told s (Ended now e) refl tied;
+        };
       },
     )
 
@@ -279,7 +305,8 @@ not_left : (e : End) → e ≢ Left → Some e ≢ Some Left
 not_left e h is = h cc
 
 -- the taking came to an End, and what the machine then wanted was carried out
-pub attends_met : (v : Terms) (s : Standing) (now : ℕ) (policy : Option Policy) (a b : At) (n : Option Member) (old mid new : Option (List Said)) (pages pages' : Option (List ℕ)) (e : End) (stop : Option Stop) (result : Result Backlog Stop)
+pub attends_met : (v : Terms) (s : Standing) (now : ℕ) (policy : Option Policy) (a b : SessionState) (n : Option Membership) (old mid new : Option (List Said))
+    (pages pages' : Option (List ℕ)) (e : End) (stop : Option Stop) (result : Result Backlog Stop)
     → v.policy ≡ policy → TakesFrom policy a.member n (traces old pages) (traces mid pages') (Met e) → Follows a s
     → Carries mid new (wanted v s (Ended now e)) (EndedBy e) stop × MeetsEnd v s now e (record { machine = a.machine; member = n; ended = a.ended; receives = a.receives }) b stop
     → stop_of result ≡ stop → TellsMore result false → Attends v s now a b (traces old pages) (traces new pages') result
@@ -301,18 +328,25 @@ attends_met v s now policy a b n old mid new pages pages' e stop result fixed t 
   line = tt;
   stops = is ∙ k.0.stops;
   more = more;
-  follows = record { conn = rw k.1.member (conn_same a.member n t.same ∙ f.conn); address = rw k.1.member (address_same a.member n t.same ∙ f.address); ended = k.1.ended; receives = k.1.receives ∙ f.receives; found = rw (k.1.ended, k.1.member) (t.found e refl) };
+  follows = record {
+    conn = rw k.1.member (conn_same a.member n t.same ∙ f.conn);
+    address = rw k.1.member (address_same a.member n t.same ∙ f.address);
+    ended = k.1.ended;
+    receives = k.1.receives ∙ f.receives;
+    found = rw (k.1.ended, k.1.member) (t.found e refl);
+  };
   runs = λ going. k.1.runs (sym is ∙ going);
 }
 
 -- ---- the opening
 
-same_member : (m : Option Member) → SameMember m m
+same_member : (m : Option Membership) → SameMember m m
 same_member None = tt
 same_member (Some m) = (refl, refl, refl)
 
 -- the reading closes the session
-pub opens_expired : (v : Terms) (s : Standing) (now : ℕ) (a b : At) (old : Option (List Said)) (pages : Option (List ℕ)) (stop : Stop) → Ticks v (started s now) now a b (Some stop) → Opens v s now a b (traces old pages) (traces old pages) (Err stop)
+pub opens_expired : (v : Terms) (s : Standing) (now : ℕ) (a b : SessionState) (old : Option (List Said)) (pages : Option (List ℕ)) (stop : Stop) → Ticks v (started s now) now a b (Some stop)
+    → Opens v s now a b (traces old pages) (traces old pages) (Err stop)
 opens_expired v s now a b old pages stop t = record {
   opening = record { reading = now; frames = []; met = None; lost = None; fault = None };
   read = refl;
@@ -333,7 +367,8 @@ closes_none w None h = refl
 closes_none w (Some c) h = cc
 
 -- nothing is taken outside of Connected
-pub opens_apart : (v : Terms) (s : Standing) (now : ℕ) (a b : At) (old : Option (List Said)) (pages : Option (List ℕ)) → Ticks v (started s now) now a b None → is_connected (ticked s now) ≡ false → Opens v s now a b (traces old pages) (traces old pages) (Ok NothingLeft)
+pub opens_apart : (v : Terms) (s : Standing) (now : ℕ) (a b : SessionState) (old : Option (List Said)) (pages : Option (List ℕ)) → Ticks v (started s now) now a b None
+    → is_connected (ticked s now) ≡ false → Opens v s now a b (traces old pages) (traces old pages) (Ok NothingLeft)
 opens_apart v s now a b old pages t apart = record {
   opening = record { reading = now; frames = []; met = None; lost = None; fault = None };
   read = refl;
@@ -350,7 +385,8 @@ opens_apart v s now a b old pages t apart = record {
 }
 
 -- in Connected the frames are taken
-pub opens_attended : (v : Terms) (s : Standing) (now : ℕ) (a b c : At) (old new : Option (List Said)) (pages pages' : Option (List ℕ)) (result : Result Backlog Stop) → Ticks v (started s now) now a b None → is_connected (ticked s now) ≡ true
+pub opens_attended : (v : Terms) (s : Standing) (now : ℕ) (a b c : SessionState) (old new : Option (List Said)) (pages pages' : Option (List ℕ)) (result : Result Backlog Stop)
+    → Ticks v (started s now) now a b None → is_connected (ticked s now) ≡ true
     → Attends v (ticked s now) now b c (traces old pages) (traces new pages') result → Opens v s now a c (traces old pages) (traces new pages') result
 opens_attended v s now a b c old new pages pages' result t live k =
     let quiet : closing_in (wanted_at v s now) ≡ None = closes_none _ _ t.stops in
@@ -374,5 +410,5 @@ phase_connected PhaseConnected h = refl
 phase_connected p h = cc
 
 -- in Connected there is a connection
-pub followed_some : (v : Terms) (s : Standing) (a : At) → Follows a s → SessionRuns v a s → is_connected s ≡ true → is_some a.member ≡ true
+pub followed_some : (v : Terms) (s : Standing) (a : SessionState) → Follows a s → SessionRuns v a s → is_connected s ≡ true → is_some a.member ≡ true
 followed_some v s a f r h = some_of a.member s.conn f.conn (sym (connected_joined (standing s.events) (phase_connected (phase s.events) h)) ∙ r.tied)

@@ -1,4 +1,5 @@
 -- Frames are taken and put.
+-- It serves the clauses of `take_frames`.
 use Rattle.std.proofs.Common.{◌≡◌, ℕ, true, ◌+◌, ◌<◌, List, [], ◌∷◌, ◌++◌, refl, ap, sym, ◌∙◌, append_assoc, append-nil, length-append, arith, Option, Some, None}
 use Rattle.std.specs.Prelude.{◌^◌, ◌-◌, min, suc, zero, length}
 use Rattle.std.proofs.lemmas.Bool.{lt-ltb}
@@ -27,8 +28,8 @@ use Rattle.std.proofs.Common.{subst, map, is_none}
 use Rattle.std.specs.Prelude.{◌&&◌}
 use Rattle.bsc_octets.specs.declared.vmac.Vmac.{Vmac}
 use Rattle.bsc_policy.specs.declared.policy.Policy.{Policy}
-use Rattle.bsc_notes.specs.Notes.{HasLine, Records, denied}
-use Rattle.bsc_notes.proofs.Common.{no_line}
+use Rattle.bsc_session.specs.Notes.Notes.{HasLine, Records, denied}
+use Rattle.bsc_session.proofs.NoteFacts.Common.{no_line}
 use Rattle.bsc_session.specs.Guarding.{denials, let_through}
 use Rattle.bsc_session.specs.Taking.{last_alone}
 use Rattle.bsc_session.specs.Moments.{traces}
@@ -68,21 +69,45 @@ keeps_ended : (o p : Outlet) (t : Take) (e : End) → Took o t p → OutletHasEn
 keeps_ended o p t e took h = (let k = keeps_all o p t took h.1 h.2 in (keeps_found o p t e took h.0, k.0, k.1))
 
 pub taking_begins : (policy : Option Policy) (to : Vmac) (o : Outlet) (old : Option (List Said)) (pages : Option (List ℕ)) → Taking policy to o o (traces old pages) (traces old pages) 0
-taking_begins None to o old pages = record { frames = []; many = refl; mark = refl; keeps = λ e h. h; gave = sym (append-nil (given o)); empties = refl; said = grows_none old; records = records-nil pages }
-taking_begins (Some p) to o old pages = record { frames = []; many = refl; mark = refl; keeps = λ e h. h; gave = sym (append-nil (given o)); empties = refl; said = grows_none old; records = records-nil pages }
+taking_begins None to o old pages = record {
+  frames = [];
+  many = refl;
+  mark = refl;
+  keeps = λ e h. h;
+  gave = sym (append-nil (given o));
+  empties = refl;
+  said = grows_none old;
+  records = records-nil pages;
+}
+taking_begins (Some p) to o old pages = record {
+  frames = [];
+  many = refl;
+  mark = refl;
+  keeps = λ e h. h;
+  gave = sym (append-nil (given o));
+  empties = refl;
+  said = grows_none old;
+  records = records-nil pages;
+}
 
 -- the puts, and the notes, of one frame more
-said_more : (policy : Option Policy) (to : Vmac) (frames : List (List ℕ)) (f : List ℕ) (old mid new : Option (List Said)) (fault : Option LinkFault) → Grows old mid (puts (let_through policy (Some to) frames) None)
-    → Grows mid new (puts (let_through policy (Some to) (f ∷ [])) fault) → HasPut (let_through policy (Some to) (f ∷ [])) fault → Grows old new (puts (let_through policy (Some to) (frames ++ f ∷ [])) fault)
+said_more : (policy : Option Policy) (to : Vmac) (frames : List (List ℕ)) (f : List ℕ) (old mid new : Option (List Said)) (fault : Option LinkFault)
+    → Grows old mid (puts (let_through policy (Some to) frames) None)
+    → Grows mid new (puts (let_through policy (Some to) (f ∷ [])) fault) → HasPut (let_through policy (Some to) (f ∷ [])) fault
+    → Grows old new (puts (let_through policy (Some to) (frames ++ f ∷ [])) fault)
 said_more policy to frames f old mid new fault h k cause =
-    grows_as old new _ _ (sym (ap (λ w. puts w fault) (let_through-append policy (Some to) frames (f ∷ [])) ∙ puts-append (let_through policy (Some to) frames) (let_through policy (Some to) (f ∷ [])) fault cause)) (grows_then old mid new _ _ h k)
+    grows_as old new _ _ (sym (ap (λ w. puts w fault) (let_through-append policy (Some to) frames (f ∷ []))
+    ∙ puts-append (let_through policy (Some to) frames) (let_through policy (Some to) (f ∷ [])) fault cause)) (grows_then old mid new _ _ h k)
 
-noted_more : (policy : Option Policy) (to : Vmac) (frames : List (List ℕ)) (f : List ℕ) (a b c : Option (List ℕ)) (lost : Option LinkFault) → Records a b (map denied (denials policy (Some to) frames)) None
-    → Records b c (map denied (denials policy (Some to) (f ∷ []))) lost → HasLine (map denied (denials policy (Some to) (f ∷ []))) lost → Records a c (map denied (denials policy (Some to) (frames ++ f ∷ []))) lost
+noted_more : (policy : Option Policy) (to : Vmac) (frames : List (List ℕ)) (f : List ℕ) (a b c : Option (List ℕ)) (lost : Option LinkFault)
+    → Records a b (map denied (denials policy (Some to) frames)) None
+    → Records b c (map denied (denials policy (Some to) (f ∷ []))) lost → HasLine (map denied (denials policy (Some to) (f ∷ []))) lost
+    → Records a c (map denied (denials policy (Some to) (frames ++ f ∷ []))) lost
 noted_more policy to frames f a b c lost h k line = subst (λ ns. Records a c ns lost) (sym (noted-append policy (Some to) frames (f ∷ []))) (records_more a b c _ _ lost h k line)
 
 -- a frame was taken, and put or noted
-pub taking_more : (policy : Option Policy) (to : Vmac) (o p q : Outlet) (old mid new : Option (List Said)) (a b c : Option (List ℕ)) (n : ℕ) (f : List ℕ) → Taking policy to o p (traces old a) (traces mid b) n
+pub taking_more : (policy : Option Policy) (to : Vmac) (o p q : Outlet) (old mid new : Option (List Said)) (a b c : Option (List ℕ)) (n : ℕ) (f : List ℕ)
+    → Taking policy to o p (traces old a) (traces mid b) n
     → Took p (Frame f) q → outlet_mark q ≡ outlet_mark p → HandsOn policy to f (traces mid b) (traces new c) None → Taking policy to o q (traces old a) (traces new c) (n + 1)
 taking_more policy to o p q old mid new a b c n f t took mark hands = record {
   frames = t.frames ++ f ∷ [];
@@ -99,7 +124,8 @@ counted : (a b : ℕ) → a < 18446744073709551615 → b ≡ min (a + 1) (2 ^ 64
 counted a b h is = omega (arith, h, is)
 
 -- fewer were there
-pub takes_few : (policy : Option Policy) (to : Vmac) (o p q : Outlet) (old new : Option (List Said)) (a c : Option (List ℕ)) (n : ℕ) → Taking policy to o p (traces old a) (traces new c) n → n < TAKES → empties_of o < 18446744073709551615
+pub takes_few : (policy : Option Policy) (to : Vmac) (o p q : Outlet) (old new : Option (List Said)) (a c : Option (List ℕ)) (n : ℕ) → Taking policy to o p (traces old a) (traces new c) n
+    → n < TAKES → empties_of o < 18446744073709551615
     → Took p Empty q → outlet_mark q ≡ outlet_mark p → Takes policy to o q (traces old a) (traces new c) All
 takes_few policy to o p q old new a c n t few room took mark =
     let less : empties_of p < 18446744073709551615 = rw t.empties room in
@@ -121,7 +147,8 @@ takes_few policy to o p q old new a c n t few room took mark =
     }
 
 -- an End was there
-pub takes_met : (policy : Option Policy) (to : Vmac) (o p q : Outlet) (old new : Option (List Said)) (a c : Option (List ℕ)) (n : ℕ) (e : End) → Taking policy to o p (traces old a) (traces new c) n → n < TAKES
+pub takes_met : (policy : Option Policy) (to : Vmac) (o p q : Outlet) (old new : Option (List Said)) (a c : Option (List ℕ)) (n : ℕ) (e : End)
+    → Taking policy to o p (traces old a) (traces new c) n → n < TAKES
     → Took p (Closed e) q → outlet_mark q ≡ outlet_mark p → OutletHasEnded q e → Takes policy to o q (traces old a) (traces new c) (Met e)
 takes_met policy to o p q old new a c n e t few took mark finds = record {
   frames = t.frames;
@@ -164,7 +191,8 @@ unmet_end : (o : Option End) (e : End) → o ≡ None → o ≡ Some e → ⊥
 unmet_end o e h k = (let x : None ≡ Some e = sym h ∙ k in cc)
 
 -- a put failed, or a line was lost
-pub takes_cut : (policy : Option Policy) (to : Vmac) (o p q : Outlet) (old mid new : Option (List Said)) (a b c : Option (List ℕ)) (n : ℕ) (f : List ℕ) (cut : Taken) → Taking policy to o p (traces old a) (traces mid b) n → n < TAKES
+pub takes_cut : (policy : Option Policy) (to : Vmac) (o p q : Outlet) (old mid new : Option (List Said)) (a b c : Option (List ℕ)) (n : ℕ) (f : List ℕ) (cut : Taken)
+    → Taking policy to o p (traces old a) (traces mid b) n → n < TAKES
     → Took p (Frame f) q → outlet_mark q ≡ outlet_mark p → HandsOn policy to f (traces mid b) (traces new c) (Some cut) → Takes policy to o q (traces old a) (traces new c) cut
 takes_cut policy to o p q old mid new a b c n f cut t few took mark hands = record {
   frames = t.frames ++ f ∷ [];

@@ -1,5 +1,6 @@
 -- The words of worked talks. The hub has the VMAC 020000000001 and takes 1,600 octets. A has the VMAC 02000000000A, and its
 -- connect has the Message ID 1. Readings are 0 where none is named.
+-- It serves bsc_network_of_runs and bsc_session_laws.
 use Rattle.std.proofs.Common.{ℕ, [], ◌∷◌, ◌++◌, Some, None, Ok, List, Option, Result, Bool, true, replicate, refl, inr, lit≤}
 use Rattle.std.specs.Prelude.{◌<◌, ◌≡◌, is_none, is_some, length}
 use Rattle.bsc_octets.specs.Identities.{identity_of}
@@ -23,7 +24,7 @@ use Rattle.bsc_session.specs.Answering.{AnswerFits, calls_hub, put_after, step_o
 use Rattle.bsc_session.specs.Course.{SessionCourse, empties_of, end_of, entries_of, frames_of, readings_of, talk_of}
 use Rattle.bsc_session.specs.Judging.{LacksAtPass}
 use Rattle.bsc_session.specs.Puts.{HasPut}
-use Rattle.bsc_notes.proofs.Common.{no_line}
+use Rattle.bsc_session.proofs.NoteFacts.Common.{no_line}
 
 -- the octets of the hub's identity, and of A's
 abbrev pub hub_octets : List ℕ
@@ -115,12 +116,14 @@ abbrev pub forwarded : ℕ → ℕ → List ℕ → (ℕ → Reply) → Entry
 forwarded sender c m reply = record { caller = 3; call = Forward sender m; looks = record { conn = c; taken = 0 } ∷ []; reply = reply c }
 
 -- a turn that takes nothing, receives, and loses no line, as it may be
-pub hears : (s : Standing) (now : ℕ) (given : Result Incoming LinkFault) (judged : Bool) (answer : Option Answer) (fault : Option LinkFault) → s.receives < terms.turns → true ≡ is_none (stop_before terms s (reads now))
+pub hears : (s : Standing) (now : ℕ) (given : Result Incoming LinkFault) (judged : Bool) (answer : Option Answer) (fault : Option LinkFault) → s.receives < terms.turns
+    → true ≡ is_none (stop_before terms s (reads now))
     → LacksAtPass terms (opened s (reads now)) judged given
     → is_some answer ≡ calls_hub terms (opened s (reads now)) (step_of terms (opened s (reads now)) now (heard_so given judged answer fault)) given
     → AnswerFits (step_of terms (opened s (reads now)) now (heard_so given judged answer fault)) answer → HasPut (put_after terms (opened s (reads now)) now (heard_so given judged answer fault)) fault
     → IsTurn terms s (record { opening = reads now; hearing = Some (heard_so given judged answer fault) })
-hears s now given judged answer fault room on memory calls fits cause = record { room = room; opening = bare s now; heard = on; hearing = record { memory = memory; calls = calls; fits = fits; line = no_line _; cause = cause } }
+hears s now given judged answer fault room on memory calls fits cause =
+    record { room = room; opening = bare s now; heard = on; hearing = record { memory = memory; calls = calls; fits = fits; line = no_line _; cause = cause } }
 
 -- what a course comes to is a session's
 pub told_by : (v : Terms) (c : SessionCourse v) (reply : End) → ((n : ℕ) (e : End) → (end_of c).conn ≡ Some n → (end_of c).ended ≡ Some e → reply ≡ e)

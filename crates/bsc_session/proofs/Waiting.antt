@@ -1,4 +1,5 @@
 -- When a reading ends a session: the connect wait is over where nobody has joined, and the peer is idle where one has.
+-- It serves the clauses of `causes_are_exact` and `serve`.
 use Rattle.std.proofs.Common.{◌≡◌, ◌⊎◌, ◌↔◌, ℕ, Bool, true, false, cond, is_some, refl, sym, ◌∙◌, inl, inr, Option, Some, None}
 use Rattle.bsc_history.specs.declared.ending.End.{End}
 use Rattle.bsc_checks.specs.declared.phase.Phase.TheVariants.{AwaitingRequest, Connected}
@@ -39,23 +40,27 @@ closed true c h = refl
 closed false c h = cc
 
 -- the reading closes while nobody has joined
-waited_at : (from : Start) (last now : ℕ) (g : MachineStanding) (c : Closing) → has_joined g ≡ false → closing_in (tick_step from last now g) ≡ Some c → (phase_named g ≡ AwaitingRequest) × (connect_wait_is_over from now ≡ true)
+waited_at : (from : Start) (last now : ℕ) (g : MachineStanding) (c : Closing) → has_joined g ≡ false → closing_in (tick_step from last now g) ≡ Some c → (phase_named g ≡ AwaitingRequest)
+    × (connect_wait_is_over from now ≡ true)
 waited_at from last now awaiting_request c h is = (refl, over (connect_wait_is_over from now) _ c is)
 waited_at from last now connected c h is = cc
 waited_at from last now (disconnecting f) c h is = cc
 
 -- it closes while one has, and doesn't disconnect
-idled_at : (from : Start) (last now : ℕ) (g : MachineStanding) (c : Closing) → has_joined g ≡ true → (has_quit g ≡ true → ⊥) → closing_in (tick_step from last now g) ≡ Some c → (phase_named g ≡ Connected) × (is_idle from last now ≡ true)
+idled_at : (from : Start) (last now : ℕ) (g : MachineStanding) (c : Closing) → has_joined g ≡ true → (has_quit g ≡ true → ⊥) → closing_in (tick_step from last now g) ≡ Some c
+    → (phase_named g ≡ Connected) × (is_idle from last now ≡ true)
 idled_at from last now awaiting_request c h quit is = cc
 idled_at from last now connected c h quit is = (refl, over (is_idle from last now) _ c is)
 idled_at from last now (disconnecting f) c h quit is = absurd (quit refl)
 
-waits_at : (from : Start) (last now : ℕ) (g : MachineStanding) → phase_named g ≡ AwaitingRequest → connect_wait_is_over from now ≡ true → (has_joined g ≡ false) × ((c : Closing) × (closing_in (tick_step from last now g) ≡ Some c))
+waits_at : (from : Start) (last now : ℕ) (g : MachineStanding) → phase_named g ≡ AwaitingRequest → connect_wait_is_over from now ≡ true → (has_joined g ≡ false)
+    × ((c : Closing) × (closing_in (tick_step from last now g) ≡ Some c))
 waits_at from last now awaiting_request h is = (refl, (closing 1008 ConnectWait, closed (connect_wait_is_over from now) _ is))
 waits_at from last now connected h is = cc
 waits_at from last now (disconnecting f) h is = cc
 
-idles_at : (from : Start) (last now : ℕ) (g : MachineStanding) → phase_named g ≡ Connected → is_idle from last now ≡ true → (has_joined g ≡ true) × ((c : Closing) × (closing_in (tick_step from last now g) ≡ Some c))
+idles_at : (from : Start) (last now : ℕ) (g : MachineStanding) → phase_named g ≡ Connected → is_idle from last now ≡ true → (has_joined g ≡ true)
+    × ((c : Closing) × (closing_in (tick_step from last now g) ≡ Some c))
 idles_at from last now awaiting_request h is = cc
 idles_at from last now connected h is = (refl, (closing 1008 IdleReason, closed (is_idle from last now) _ is))
 idles_at from last now (disconnecting f) h is = cc
@@ -95,11 +100,13 @@ reading_closes : (conn : Option ℕ) (tick : Option Closing) (later : Option Sto
 reading_closes conn None later stop not is h = absurd (not is h)
 reading_closes conn (Some c) later stop not is h = (why_is _ stop is, (c, refl))
 
-opening_closes : (v : Terms) (s : Standing) (o : Opening) (stop : Stop) → stop_before v s o ≡ Some stop → IsWaiting stop.why → (stop.why ≡ waiting_for s.conn) × ((c : Closing) × (closing_in (wanted_at v s o.reading) ≡ Some c))
+opening_closes : (v : Terms) (s : Standing) (o : Opening) (stop : Stop) → stop_before v s o ≡ Some stop → IsWaiting stop.why → (stop.why ≡ waiting_for s.conn)
+    × ((c : Closing) × (closing_in (wanted_at v s o.reading) ≡ Some c))
 opening_closes v s o stop is h = reading_closes s.conn (closing_in (wanted_at v s o.reading)) _ stop (later_waits v (ticked s o.reading) o.met o.reading o.lost o.fault stop) is h
 
 -- where the reading closes, that is how the turn stops
-stops_closed : (conn : Option ℕ) (tick : Option Closing) (c : Closing) (later last : Option Stop) (stop : Stop) → tick ≡ Some c → first_of (first_of (closes (waiting_for conn) tick) later) last ≡ Some stop → stop.why ≡ waiting_for conn
+stops_closed : (conn : Option ℕ) (tick : Option Closing) (c : Closing) (later last : Option Stop) (stop : Stop) → tick ≡ Some c
+    → first_of (first_of (closes (waiting_for conn) tick) later) last ≡ Some stop → stop.why ≡ waiting_for conn
 stops_closed conn None c later last stop h is = cc
 stops_closed conn (Some d) c later last stop h is = why_is _ stop is
 
@@ -121,12 +128,15 @@ waits_joined (Some c) h = refl
 
 -- ---- the rows
 
-wait_found : (v : Terms) (s : Standing) (o : Opening) (h : Option Hearing) (stop : Stop) → Sound s → stop_before v s o ≡ Some stop → stop.why ≡ WaitExpired → HasWaited v s (Some (record { opening = o; hearing = h }))
+wait_found : (v : Terms) (s : Standing) (o : Opening) (h : Option Hearing) (stop : Stop) → Sound s → stop_before v s o ≡ Some stop → stop.why ≡ WaitExpired
+    → HasWaited v s (Some (record { opening = o; hearing = h }))
 wait_found v s o h stop sound is why =
     let k = opening_closes v s o stop is (inl why) in
-    waited_at (start_of v (started s o.reading)) (last_message (start_of v (started s o.reading)) s.events) o.reading (standing s.events) k.1.0 (sound.tied ∙ waits_unjoined s.conn (sym k.0 ∙ why)) k.1.1
+    waited_at (start_of v (started s o.reading)) (last_message (start_of v (started s o.reading)) s.events) o.reading (standing s.events) k.1.0
+    (sound.tied ∙ waits_unjoined s.conn (sym k.0 ∙ why)) k.1.1
 
-idle_found : (v : Terms) (s : Standing) (o : Opening) (h : Option Hearing) (stop : Stop) → Sound s → s.ended ≡ None → stop_before v s o ≡ Some stop → stop.why ≡ Idle → HasIdled v s (Some (record { opening = o; hearing = h }))
+idle_found : (v : Terms) (s : Standing) (o : Opening) (h : Option Hearing) (stop : Stop) → Sound s → s.ended ≡ None → stop_before v s o ≡ Some stop → stop.why ≡ Idle
+    → HasIdled v s (Some (record { opening = o; hearing = h }))
 idle_found v s o h stop sound none is why =
     let k = opening_closes v s o stop is (inr why) in
     idled_at (start_of v (started s o.reading)) (last_message (start_of v (started s o.reading)) s.events) o.reading (standing s.events) k.1.0 (sound.tied ∙ waits_joined s.conn (sym k.0 ∙ why))
@@ -159,5 +169,6 @@ idle_last v s o h stop sound stops k =
     stops_closed s.conn (closing_in (wanted_at v s o.reading)) w.1.0 _ _ stop w.1.1 stops ∙ joined_waits s.conn (sym w.0 ∙ sound.tied)
 
 pub idle_row : (v : Terms) (s : Standing) (o : Opening) (h : Option Hearing) (stop : Stop) → Ends (given_in h) (judged_in h) (answer_in h) (hearing_fault o.fault h) stop.why → Sound s
-    → stop_in v s (record { opening = o; hearing = h }) ≡ Some stop → (after v s (record { opening = o; hearing = h })).ended ≡ None → stop.why ≡ Idle ↔ HasIdled v s (Some (record { opening = o; hearing = h }))
+    → stop_in v s (record { opening = o; hearing = h }) ≡ Some stop → (after v s (record { opening = o; hearing = h })).ended ≡ None
+    → stop.why ≡ Idle ↔ HasIdled v s (Some (record { opening = o; hearing = h }))
 idle_row v s o h stop e sound stops none = (λ why. idle_first v s o h stop e sound (unmet v s o h none).1 stops why, λ k. idle_last v s o h stop sound stops k)

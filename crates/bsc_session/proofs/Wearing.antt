@@ -1,4 +1,5 @@
 -- When a hub is worn, by what a pass has seen.
+-- It serves clauses of functions of `answering`, `ending` and `serving`.
 use Rattle.std.proofs.Common.{◌≡◌, ◌≢◌, ◌↔◌, ℕ, ◌+◌, ◌≤◌, ◌<◌, true, false, List, [], ◌∷◌, ◌++◌, length, length-append, refl, ap, sym, ◌∙◌, arith, inl, inr, Some, None, Result, Err}
 use Rattle.std.specs.Prelude.{nat_le, IsTrue}
 use Rattle.std.proofs.lemmas.Bool.Decides.{leb_tells}
@@ -11,7 +12,7 @@ use Rattle.bsc_history.specs.declared.told.Worn.{Worn}
 use Rattle.bsc_history.specs.Marks.{entries}
 use Rattle.bsc_history.proofs.More.{entries-more}
 use Rattle.bsc_turn.specs.declared.pass.Pass.{Pass}
-use Rattle.bsc_turn.specs.declared.view.Ended.{Ended}
+use Rattle.bsc_turn.specs.declared.view.EndedCaller.{EndedCaller}
 use Rattle.bsc_turn.specs.Passes.{seen}
 use Rattle.bsc_desk.specs.Entries.{connect_due}
 use Rattle.bsc_hub.specs.declared.hub.Hub.{Hub}
@@ -32,7 +33,7 @@ one_longer : (F : List Stamped) (s : Stamped) (H : List Stamped) → H ≡ F ++ 
 one_longer F s H is = ap (λ (l : List Stamped). length (entries l)) is ∙ ap (λ (l : List Entry). length l) (entries-more F s) ∙ length-append (entries F) (s.entry ∷ [])
 
 -- one that leaves then makes an entry more
-pub wears_left : (h : Hub) (p q : Pass) (took : List Ended) (m : Placed) → Passed h p took (Some m) q → SeesWorn h p → (about_of h).limits.calls < length (entries (seen q))
+pub wears_left : (h : Hub) (p q : Pass) (took : List EndedCaller) (m : Placed) → Passed h p took (Some m) q → SeesWorn h p → (about_of h).limits.calls < length (entries (seen q))
 wears_left h p q took m passed is =
     let most = longer (seen p) passed.makes.before passed.makes.begins in
     let one = one_longer passed.makes.before m.stamped (seen q) passed.makes.ends in

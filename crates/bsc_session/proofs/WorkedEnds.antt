@@ -1,5 +1,6 @@
 -- Talks written out, each a session by computation: how sessions end that neither the link nor the peer ends; and what no
 -- session has.
+-- No clause needs it: worked examples.
 use Rattle.std.proofs.Common.{◌≡◌, ℕ, List, [], ◌∷◌, Some, None, Ok, true, refl, inl, lit<, lit≤, false, arith}
 use Rattle.bsc_octets.specs.Identities.{identity_of}
 use Rattle.bsc_frame.specs.declared.body.Body.TheVariants.{ConnectRequest}
@@ -50,7 +51,18 @@ an_end_has_frames_before_it = told_by terms (record {
   went_on = joins ∷ [];
   last = Some (record { opening = record { reading = 0; frames = back ∷ back ∷ []; met = Some Full; lost = None; fault = None }; hearing = None });
   stop = stop_closing (EndedBy Full) 1008 OutboxFull;
-  turns = (hears _ 0 _ _ _ _ (lit< tt) refl tt refl refl tt, (record { room = lit< tt; opening = record { takes = inl (refl, refl); few = lit≤ tt; not_left = λ h. cc; line = tt; cause = tt }; heard = refl; hearing = tt }, tt));
+  turns = (
+    hears _ 0 _ _ _ _ (lit< tt) refl tt refl refl tt,
+    (
+      record {
+        room = lit< tt;
+        opening = record { takes = inl (refl, refl); few = lit≤ tt; not_left = λ h. cc; line = tt; cause = tt };
+        heard = refl;
+        hearing = tt;
+      },
+      tt,
+    ),
+  );
   goes_on = (refl, tt);
   stops = refl;
 }) Full (λ c e joined met. cc)
@@ -99,9 +111,23 @@ a_replaced_one_answers : Session terms
 unfolding verdict_on_literals
 a_replaced_one_answers = told_by terms (record {
   went_on = joins ∷ [];
-  last = Some (record { opening = record { reading = 0; frames = []; met = Some Replaced; lost = None; fault = None }; hearing = Some (record { given = Ok (Message farewell_ack); judged = true; answer = None; lost = None; fault = None }) });
+  last = Some (record {
+    opening = record { reading = 0; frames = []; met = Some Replaced; lost = None; fault = None };
+    hearing = Some (record { given = Ok (Message farewell_ack); judged = true; answer = None; lost = None; fault = None });
+  });
   stop = stop_closing PeerLeft 1000 NoReason;
-  turns = (hears _ 0 _ _ _ _ (lit< tt) refl tt refl refl tt, (record { room = lit< tt; opening = record { takes = inl (refl, refl); few = lit≤ tt; not_left = λ h. cc; line = tt; cause = tt }; heard = refl; hearing = record { memory = tt; calls = refl; fits = tt; line = tt; cause = tt } }, tt));
+  turns = (
+    hears _ 0 _ _ _ _ (lit< tt) refl tt refl refl tt,
+    (
+      record {
+        room = lit< tt;
+        opening = record { takes = inl (refl, refl); few = lit≤ tt; not_left = λ h. cc; line = tt; cause = tt };
+        heard = refl;
+        hearing = record { memory = tt; calls = refl; fits = tt; line = tt; cause = tt };
+      },
+      tt,
+    ),
+  );
   goes_on = (refl, tt);
   stops = refl;
 }) Replaced (λ c e joined met. cc)

@@ -1,4 +1,5 @@
 -- What a link is told, written out: a row for each reply that a session's entries may have.
+-- No clause needs it: worked examples.
 use Rattle.std.proofs.Common.{◌≡◌, [], ◌∷◌, Some, None, refl}
 use Rattle.bsc_octets.specs.declared.identity.Identity.{Identity}
 use Rattle.bsc_history.specs.declared.ending.End.{End}

@@ -1,4 +1,5 @@
 -- Talks written out, each a session by computation: a link of which each call in turn fails, and what a peer may send.
+-- No clause needs it: worked examples.
 use Rattle.std.proofs.Common.{[], ◌∷◌, ◌++◌, Some, None, Ok, Err, true, replicate, refl, inl, lit<, lit≤}
 use Rattle.bsc_octets.specs.Identities.{identity_of}
 use Rattle.bsc_history.specs.declared.call.Call.TheVariants.{Connect}
@@ -17,7 +18,8 @@ use Rattle.bsc_session.specs.Receiving.{replies}
 use Rattle.bsc_session.specs.Stops.{stop_at, stop_for, stop_closing}
 use Rattle.bsc_session.specs.Taking.{full_wait}
 use Rattle.bsc_session.specs.Talk.{Session}
-use Rattle.bsc_session.proofs.TalkWords.{a_octets, terms, reads, bare, given_at, gives, connect, accept, connects, joins_as, joins, joined_as, left_as, to_itself, back, to_b, leaves, leaves_ack, cut, too_long, forwards_to, forwarded, hears, told_by}
+use Rattle.bsc_session.proofs.TalkWords.{a_octets, terms, reads, bare, given_at, gives, connect, accept, connects, joins_as, joins, joined_as, left_as, to_itself, back, to_b}
+use Rattle.bsc_session.proofs.TalkWords.{leaves, leaves_ack, cut, too_long, forwards_to, forwarded, hears, told_by}
 
 -- The link gives A's connect, and then Closed; nothing fails.
 nothing_fails : Session terms
@@ -99,7 +101,13 @@ a_frame_cannot_leave = told_by terms (record {
   went_on = (joins ∷ forwards_to 1 to_itself Appended ∷ []);
   last = Some (record { opening = record { reading = 0; frames = back ∷ []; met = None; lost = None; fault = Some Failed }; hearing = None });
   stop = stop_at Failed;
-  turns = (hears _ 0 _ _ _ _ (lit< tt) refl tt refl refl tt, (hears _ 0 _ _ _ _ (lit< tt) refl tt refl tt tt, (record { room = lit< tt; opening = record { takes = inl (refl, refl); few = lit≤ tt; not_left = λ h. cc; line = tt; cause = tt }; heard = refl; hearing = tt }, tt)));
+  turns = (
+    hears _ 0 _ _ _ _ (lit< tt) refl tt refl refl tt,
+    (
+      hears _ 0 _ _ _ _ (lit< tt) refl tt refl tt tt,
+      (record { room = lit< tt; opening = record { takes = inl (refl, refl); few = lit≤ tt; not_left = λ h. cc; line = tt; cause = tt }; heard = refl; hearing = tt }, tt),
+    ),
+  );
   goes_on = (refl, (refl, tt));
   stops = refl;
 }) Left (λ c e joined met. cc)
@@ -252,7 +260,13 @@ an_outbox_is_full = told_by terms (record {
   went_on = (joins_as 2 ∷ forwards_to 1 (to_b 1) Appended ∷ forwards_to 1 (to_b 2) Appended ∷ forwards_to 1 (to_b 3) ClosedReply ∷ []);
   last = Some (gives Closed);
   stop = stop_for PeerClosed None;
-  turns = (hears _ 0 _ _ _ _ (lit< tt) refl tt refl refl tt, (hears _ 0 _ _ _ _ (lit< tt) refl tt refl tt tt, (hears _ 0 _ _ _ _ (lit< tt) refl tt refl tt tt, (hears _ 0 _ _ _ _ (lit< tt) refl tt refl tt tt, (hears _ 0 _ _ _ _ (lit< tt) refl tt refl tt tt, tt)))));
+  turns = (
+    hears _ 0 _ _ _ _ (lit< tt) refl tt refl refl tt,
+    (
+      hears _ 0 _ _ _ _ (lit< tt) refl tt refl tt tt,
+      (hears _ 0 _ _ _ _ (lit< tt) refl tt refl tt tt, (hears _ 0 _ _ _ _ (lit< tt) refl tt refl tt tt, (hears _ 0 _ _ _ _ (lit< tt) refl tt refl tt tt, tt))),
+    ),
+  );
   goes_on = (refl, (refl, (refl, (refl, tt))));
   stops = refl;
 }) Left (λ c e joined met. cc)
@@ -267,9 +281,23 @@ more_may_wait : Session terms
 unfolding verdict_on_literals
 more_may_wait = told_by terms (record {
   went_on = (joins ∷ []);
-  last = Some (record { opening = record { reading = 0; frames = replicate TAKES back; met = None; lost = None; fault = None }; hearing = Some (record { given = Ok Closed; judged = true; answer = None; lost = None; fault = None }) });
+  last = Some (record {
+    opening = record { reading = 0; frames = replicate TAKES back; met = None; lost = None; fault = None };
+    hearing = Some (record { given = Ok Closed; judged = true; answer = None; lost = None; fault = None });
+  });
   stop = stop_for PeerClosed None;
-  turns = (hears _ 0 _ _ _ _ (lit< tt) refl tt refl refl tt, (record { room = lit< tt; opening = record { takes = inl (refl, refl); few = lit≤ tt; not_left = λ h. cc; line = tt; cause = tt }; heard = refl; hearing = record { memory = tt; calls = refl; fits = tt; line = tt; cause = tt } }, tt));
+  turns = (
+    hears _ 0 _ _ _ _ (lit< tt) refl tt refl refl tt,
+    (
+      record {
+        room = lit< tt;
+        opening = record { takes = inl (refl, refl); few = lit≤ tt; not_left = λ h. cc; line = tt; cause = tt };
+        heard = refl;
+        hearing = record { memory = tt; calls = refl; fits = tt; line = tt; cause = tt };
+      },
+      tt,
+    ),
+  );
   goes_on = (refl, tt);
   stops = refl;
 }) Left (λ c e joined met. cc)

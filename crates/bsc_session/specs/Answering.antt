@@ -20,7 +20,7 @@ use Rattle.bsc_session.specs.declared.why.Why.{Why}
 use Rattle.bsc_session.specs.declared.why.Why.TheVariants.{Denied as WhyDenied, NotBinary, PeerClosed, PeerLeft, Refused as WhyRefused, Worn as WhyWorn}
 use Rattle.bsc_lines.specs.declared.denial.Denial.{Denial}
 use Rattle.bsc_session.specs.Guarding.{denial_of, if_any}
-use Rattle.bsc_notes.specs.Notes.{Note, made, denied, HasLine}
+use Rattle.bsc_session.specs.Notes.Notes.{Note, made, denied, HasLine}
 use Rattle.bsc_session.specs.Judging.{LacksAtPass, heard, heard_step}
 use Rattle.bsc_session.specs.Puts.{HasPut, octets_in, puts}
 use Rattle.bsc_session.specs.Receiving.{Answer, replies, worn, no_memory, Hearing}

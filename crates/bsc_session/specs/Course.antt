@@ -8,7 +8,7 @@ use Rattle.bsc_accept.specs.declared.reason.Reason.TheVariants.{Nothing as NoRea
 use Rattle.bsc_accept.specs.Reasons.{reason_text}
 use Rattle.bsc_session.specs.declared.stop.Stop.{Stop}
 use Rattle.bsc_session.specs.declared.why.Why.TheVariants.{Spent}
-use Rattle.bsc_notes.specs.Notes.{Note}
+use Rattle.bsc_session.specs.Notes.Notes.{Note}
 use Rattle.bsc_session.specs.Standings.{Standing, Terms, begun}
 use Rattle.bsc_session.specs.Stops.{stop_closing}
 use Rattle.bsc_session.specs.Turns.{IsTurn, Turn, after, empties_in, entries_in, frames_in, notes_in, reading_in, said_in, stop_in}

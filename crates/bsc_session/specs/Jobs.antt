@@ -8,7 +8,7 @@ use Rattle.bsc_history.specs.Marks.{entries}
 use Rattle.bsc_turn.specs.Passes.{seen}
 use Rattle.bsc_edge.specs.declared.said.Said.{Said}
 use Rattle.bsc_edge.specs.declared.notice.Notice.{Notice}
-use Rattle.bsc_notes.specs.Notes.{Records}
+use Rattle.bsc_session.specs.Notes.Notes.{Records}
 use Rattle.bsc_policy.specs.declared.policy.Policy.{Policy}
 use Rattle.bsc_session.specs.declared.job.SessionJob.{SessionJob}
 use Rattle.bsc_session.specs.declared.session_end.SessionEnd.{SessionEnd}

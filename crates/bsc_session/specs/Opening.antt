@@ -8,13 +8,13 @@ use Rattle.bsc_accept.specs.declared.event.Event.TheVariants.{Tick}
 use Rattle.bsc_history.specs.declared.ending.End.TheVariants.{Left}
 use Rattle.bsc_ring.specs.Ends.{outlet_mark}
 use Rattle.bsc_session.specs.declared.bounds.TheConstants.{TAKES}
-use Rattle.bsc_session.specs.declared.at.At.{At}
+use Rattle.bsc_session.specs.declared.session_state.SessionState.{SessionState}
 use Rattle.bsc_session.specs.declared.backlog.Backlog.{Backlog}
-use Rattle.bsc_session.specs.declared.member.Member.{Member}
+use Rattle.bsc_session.specs.declared.membership.Membership.{Membership}
 use Rattle.bsc_session.specs.declared.stop.Stop.{Stop}
 use Rattle.bsc_session.specs.declared.taken.Taken.{Taken}
 use Rattle.bsc_policy.specs.declared.policy.Policy.{Policy}
-use Rattle.bsc_notes.specs.Notes.{HasLine, Records, denied}
+use Rattle.bsc_session.specs.Notes.Notes.{HasLine, Records, denied}
 use Rattle.bsc_session.specs.Guarding.{denials, let_through}
 use Rattle.bsc_session.specs.Puts.{HasPut, octets_in, puts}
 use Rattle.bsc_session.specs.Standings.{Standing, Terms, is_connected, told, wanted}
@@ -28,13 +28,13 @@ use Rattle.bsc_session.specs.TakingFrames.{FitsCount, cut_in, met_in, nothing_fo
 use Rattle.bsc_session.specs.Moments.{Traces}
 
 -- The same connection, from whose outbox more was taken.
-abbrev pub SameMember : Option Member → Option Member → Type 0
+abbrev pub SameMember : Option Membership → Option Membership → Type 0
 SameMember None None = ⊤
 SameMember (Some m) (Some n) = (n.conn ≡ m.conn) × (n.address ≡ m.address) × (outlet_mark n.outlet ≡ outlet_mark m.outlet)
 SameMember m n = ⊥
 
 -- Frames were taken from a connection's outlet.
-pub record TakesFrom (policy : Option Policy) (m n : Option Member) (before after : Traces) (taken : Taken) : Type 0 where
+pub record TakesFrom (policy : Option Policy) (m n : Option Membership) (before after : Traces) (taken : Taken) : Type 0 where
   pub frames : List (List ℕ)
   pub same : SameMember m n
   pub keeps : (e : Option End) → HasFound e m → HasFound e n
@@ -50,21 +50,21 @@ pub record TakesFrom (policy : Option Policy) (m n : Option Member) (before afte
   pub line : HasLine (map denied (denials policy (address_by m) (last_alone frames))) (unput_in taken)
 
 -- The machine was told an End.
-pub record MeetsEnd (v : Terms) (s : Standing) (now : ℕ) (e : End) (a b : At) (stop : Option Stop) : Type 0 where
+pub record MeetsEnd (v : Terms) (s : Standing) (now : ℕ) (e : End) (a b : SessionState) (stop : Option Stop) : Type 0 where
   pub member : b.member ≡ a.member
   pub ended : b.ended ≡ Some e
   pub receives : b.receives ≡ a.receives
   pub runs : stop ≡ None → SessionRuns v b (end_told s now (Some e))
 
 -- The machine was told the time.
-pub record Ticks (v : Terms) (s : Standing) (now : ℕ) (a b : At) (stop : Option Stop) : Type 0 where
+pub record Ticks (v : Terms) (s : Standing) (now : ℕ) (a b : SessionState) (stop : Option Stop) : Type 0 where
   pub member : b.member ≡ a.member
   pub stops : stop ≡ closes (waiting_for s.conn) (closing_in (wanted v s (Tick now)))
   pub follows : Follows b (told s (Tick now))
   pub runs : stop ≡ None → SessionRuns v b (told s (Tick now))
 
 -- In Connected the frames were taken and the End was met, after the reading.
-pub record Attends (v : Terms) (s : Standing) (now : ℕ) (a b : At) (before after : Traces) (result : Result Backlog Stop) : Type 0 where
+pub record Attends (v : Terms) (s : Standing) (now : ℕ) (a b : SessionState) (before after : Traces) (result : Result Backlog Stop) : Type 0 where
   pub frames : List (List ℕ)
   pub met : Option End
   pub lost : Option LinkFault
@@ -88,7 +88,7 @@ abbrev pub empties_opening : Terms → Standing → Opening → ℕ
 empties_opening v s o = if is_none o.met && (is_none (stop_before v s o) && (is_connected (ticked s o.reading) && nat_lt (length o.frames) TAKES)) then 1 else 0
 
 -- A turn was opened.
-pub record Opens (v : Terms) (s : Standing) (now : ℕ) (a b : At) (before after : Traces) (result : Result Backlog Stop) : Type 0 where
+pub record Opens (v : Terms) (s : Standing) (now : ℕ) (a b : SessionState) (before after : Traces) (result : Result Backlog Stop) : Type 0 where
   pub opening : Opening
   pub read : opening.reading ≡ now
   pub is : IsOpening v s opening

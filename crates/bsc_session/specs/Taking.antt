@@ -11,7 +11,7 @@ use Rattle.bsc_session.specs.declared.stop.Stop.{Stop}
 use Rattle.bsc_session.specs.declared.why.Why.{Why}
 use Rattle.bsc_session.specs.declared.why.Why.TheVariants.{EndedBy, Idle, WaitExpired}
 use Rattle.bsc_session.specs.Guarding.{denials, let_through}
-use Rattle.bsc_notes.specs.Notes.{HasLine, Note, denied}
+use Rattle.bsc_session.specs.Notes.Notes.{HasLine, Note, denied}
 use Rattle.bsc_session.specs.Puts.{HasPut, octets_in}
 use Rattle.bsc_session.specs.Reading.{ticked, wanted_at}
 use Rattle.bsc_session.specs.Standings.{Standing, Terms, is_connected, told, wanted}

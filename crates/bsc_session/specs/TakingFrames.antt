@@ -11,7 +11,7 @@ use Rattle.bsc_session.specs.declared.bounds.TheConstants.{TAKES}
 use Rattle.bsc_session.specs.declared.taken.Taken.{Taken}
 use Rattle.bsc_session.specs.declared.taken.Taken.TheVariants.{All, Part, Met, Cut, Lost}
 use Rattle.bsc_policy.specs.declared.policy.Policy.{Policy}
-use Rattle.bsc_notes.specs.Notes.{HasLine, Records, denied}
+use Rattle.bsc_session.specs.Notes.Notes.{HasLine, Records, denied}
 use Rattle.bsc_session.specs.Guarding.{denials, let_through}
 use Rattle.bsc_session.specs.Puts.{HasPut, puts}
 use Rattle.bsc_session.specs.Taking.{count_of, last_alone}

@@ -11,7 +11,7 @@ use Rattle.bsc_session.specs.declared.ended.Ended.{Ended}
 use Rattle.bsc_session.specs.declared.why.Why.{Why}
 use Rattle.bsc_session.specs.declared.why.Why.TheVariants.{EndedBy, JournalFault, LinkFault, NoMemory, Spent}
 use Rattle.bsc_session.specs.Course.{SessionCourse, empties_of, end_of, entries_of, frames_of, notes_of, readings_of, talk_of}
-use Rattle.bsc_notes.specs.Notes.{HasLine, Note, made}
+use Rattle.bsc_session.specs.Notes.Notes.{HasLine, Note, made}
 use Rattle.bsc_session.specs.Standings.{Terms}
 
 -- The Leave of a session that had joined.

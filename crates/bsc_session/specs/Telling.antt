@@ -3,7 +3,7 @@ use Rattle.std.specs.Prelude.{ℕ, Bool, List, Option}
 use Rattle.bsc_edge.specs.declared.notice.Notice.{Notice}
 use Rattle.bsc_edge.specs.Told.{Grows}
 use Rattle.bsc_hub.specs.declared.hub.Hub.{Hub}
-use Rattle.bsc_session.specs.declared.at.At.{At}
+use Rattle.bsc_session.specs.declared.session_state.SessionState.{SessionState}
 use Rattle.bsc_session.specs.declared.ended.Ended.{Ended}
 use Rattle.bsc_session.specs.declared.stop.Stop.{Stop}
 use Rattle.bsc_session.specs.Course.{and_last, shares}
@@ -36,9 +36,9 @@ abbrev pub MakesTold : Terms → Standing → ℕ → Hub → Moment → Moment 
 MakesTold v s now h before after old new stop = (m : Makes v s now h before after stop) × Grows old new (notices_in v s m.turn)
 
 -- Turns were made that went on, and the link was told what they say.
-abbrev pub StoodTold : Terms → SessionWorld → SessionWorld → At → ℕ → Option (List Notice) → Option (List Notice) → Type 0
+abbrev pub StoodTold : Terms → SessionWorld → SessionWorld → SessionState → ℕ → Option (List Notice) → Option (List Notice) → Type 0
 StoodTold v before after a now old new = (k : Stood v before after a now) × Grows old new (shares notices_in v begun k.turns)
 
 -- All turns were made, and the link was told what they say.
-abbrev pub RanTold : Terms → SessionWorld → SessionWorld → At → Stop → Option (List Notice) → Option (List Notice) → Type 0
+abbrev pub RanTold : Terms → SessionWorld → SessionWorld → SessionState → Stop → Option (List Notice) → Option (List Notice) → Type 0
 RanTold v before after a stop old new = (r : SessionRan v before after a stop) × Grows old new (shares notices_in v begun (and_last r.went_on r.last))

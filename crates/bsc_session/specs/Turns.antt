@@ -6,7 +6,7 @@ use Rattle.bsc_edge.specs.declared.said.Said.{Said}
 use Rattle.bsc_session.specs.declared.bounds.TheConstants.{TAKES}
 use Rattle.bsc_session.specs.declared.stop.Stop.{Stop}
 use Rattle.bsc_session.specs.Answering.{IsHearing, after_hearing, entries_hearing, notes_hearing, said_hearing, stop_hearing}
-use Rattle.bsc_notes.specs.Notes.{Note}
+use Rattle.bsc_session.specs.Notes.Notes.{Note}
 use Rattle.bsc_session.specs.Puts.{puts}
 use Rattle.bsc_session.specs.Reading.{ticked}
 use Rattle.bsc_session.specs.Receiving.{Hearing}

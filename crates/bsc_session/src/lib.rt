@@ -5,14 +5,11 @@
 #![tactic(auto)]
 
 mod answering;
-mod at;
 mod backlog;
 mod bounds;
 mod ended;
 mod ending;
 mod guarding;
-mod here;
-mod hub_side;
 mod job;
 mod job_parts;
 mod job_terms;
@@ -20,13 +17,15 @@ mod judging;
 mod last;
 mod laws;
 mod limits;
-mod member;
+mod membership;
+mod notes;
 mod noting;
-mod parted;
 mod serving;
+mod session_context;
 mod session_end;
+mod session_setup;
+mod session_state;
 mod stop;
-mod stopped;
 mod stopping;
 mod taken;
 mod taking;
@@ -37,7 +36,6 @@ mod working;
 
 pub use bounds::{TAKES, WAIT_MS};
 pub use ended::Ended;
-pub use hub_side::HubSide;
 pub use job::SessionJob;
 pub use job_parts::JobParts;
 pub use job_terms::JobTerms;
@@ -47,7 +45,9 @@ pub use laws::{
     wakes_whom_it_concerns,
 };
 pub use limits::SessionLimits;
+pub use notes::{Journal, Made, Noted};
 pub use serving::{serve_connection, serve_guarded, serve_recorded};
 pub use session_end::SessionEnd;
+pub use session_setup::SessionSetup;
 pub use stop::Stop;
 pub use why::Why;

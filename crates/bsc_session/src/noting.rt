@@ -5,17 +5,17 @@ ghost use Rattle.bsc_history.specs.declared.reply.Reply.{Reply};
 ghost use Rattle.bsc_desk.specs.Entries.{all_looks, all_reply, connect_entry, forward_entry, leave_entry, one_looks, one_reply};
 ghost use Rattle.bsc_edge.specs.declared.fault.LinkFault.{LinkFault};
 ghost use Rattle.bsc_edge.specs.Told.{fault_in};
-ghost use Rattle.bsc_notes.specs.Notes.{Records, denied, made as made_note};
+ghost use Rattle.bsc_session.specs.Notes.Notes.{Records, denied, made as made_note};
 ghost use Rattle.bsc_session.specs.CarryingOut.{RoseIf, UnputIf};
 ghost use Rattle.bsc_session.specs.Stops.{stop_lost};
 
+use crate::notes::{Journal, Made, Noted};
 use crate::stop::Stop;
 use crate::stopping::stop_unrecorded;
 use bsc_desk::{AllReply, Gone, OneReply};
 use bsc_edge::LinkFault;
 use bsc_history::Refusal;
 use bsc_lines::Denial;
-use bsc_notes::{Journal, Made, Noted};
 use bsc_octets::Identity;
 use std::alloc::Global;
 

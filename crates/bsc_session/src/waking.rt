@@ -52,12 +52,12 @@ pub fn wake_all<L: Link>(link: &mut L, said: &AllReply)
 
 /// Tells the link whose it is, and of the connection that was replaced.
 #[tactic(auto, using(bsc_edge::proofs::Common::grows_none, bsc_edge::proofs::Common::stays_same, bsc_edge::proofs::Common::stays_then))]
-pub fn introduce<L: Link>(link: &mut L, conn: u64, replaced: Option<u64>)
+pub fn announce_join<L: Link>(link: &mut L, conn: u64, replaced: Option<u64>)
     ensures told { Stays (L.talk link.old) (L.talk link.new) }
     ensures same { L.faults link.new ≡ L.faults link.old }
     ensures woken { Grows (L.notices link.old) (L.notices link.new) (notices_by (Reply.Joined conn replaced)) }
 {
-    link.known_as(conn);
+    link.set_connection(conn);
     if let Some(replaced) = replaced {
         link.wake(replaced);
     }

@@ -1,9 +1,9 @@
 //! What the job of a session does.
-use crate::hub_side::HubSide;
 use crate::job::SessionJob;
 use crate::last::Last;
 use crate::serving::{serve_connection, serve_guarded, serve_recorded};
 use crate::session_end::SessionEnd;
+use crate::session_setup::SessionSetup;
 use bsc_edge::{Clock, Job, Link};
 use bsc_hub::Hub;
 use bsc_outside::Sink;
@@ -35,7 +35,7 @@ impl<L: Link + Drop, C: Clock + Drop, N: Sink + Drop> Job for SessionJob<L, C, N
         let mut clock = clock;
         let mut journal = journal;
         let here: &Hub = &hub;
-        let side = HubSide {
+        let side = SessionSetup {
             rt,
             alloc,
             hub: here,

@@ -1,4 +1,5 @@
 -- No frame is taken before the Connect-Accept was put.
+-- It serves the clauses of `frames_follow_accept`.
 use Rattle.std.proofs.Common.{◌≡◌, ◌≢◌, inl, inr, ℕ, false, List, [], ◌∷◌, ◌++◌, Option, Some, None, Ok, refl, ap, sym, ◌∙◌, subst, append_assoc, append-nil}
 use Rattle.bsc_frame.specs.Spelling.{spelling}
 use Rattle.bsc_history.specs.declared.entry.Entry.{Entry}
@@ -60,10 +61,12 @@ accepts_later v s t ts none r = record {
   request = r.request;
   id = r.id;
   said_later = r.said_later;
-  talk = ap (λ (l : List Said). said_in v s t ++ l) r.talk ∙ sym (append_assoc (said_in v s t) (shares said_in v (after v s t) r.before) (Gave full_wait (Ok (Message r.request)) ∷ Put (spelling (connect_accept r.id v.hub)) None ∷ r.said_later));
+  talk = ap (λ (l : List Said). said_in v s t ++ l) r.talk ∙ sym (append_assoc (said_in v s t) (shares said_in v (after v s t) r.before)
+      (Gave full_wait (Ok (Message r.request)) ∷ Put (spelling (connect_accept r.id v.hub)) None ∷ r.said_later));
 }
 
-accepts : (v : Terms) (s : Standing) (ts : List Turn) (last : Option Turn) → is_in s ≡ false → EachTurn IsTurn v s (and_last ts last) → EachTurn TurnGoesOn v s ts → shares frames_in v s (and_last ts last) ≢ [] → Accepts v s (and_last ts last)
+accepts : (v : Terms) (s : Standing) (ts : List Turn) (last : Option Turn) → is_in s ≡ false → EachTurn IsTurn v s (and_last ts last) → EachTurn TurnGoesOn v s ts
+    → shares frames_in v s (and_last ts last) ≢ [] → Accepts v s (and_last ts last)
 accepts v s [] None out is on some = absurd (some refl)
 accepts v s [] (Some t) out is on some = absurd (some (append-nil (frames_in v s t) ∙ none_in v s t out is.0))
 accepts v s (t ∷ ts) last out is on some =
@@ -76,7 +79,8 @@ accepts v s (t ∷ ts) last out is on some =
       | inr j ↦ accepts_now v s t (and_last ts last) none j
     ])
 
-pub frames_follow_accept : (v : Terms) (T : List Said) (R : List ℕ) (E : List Entry) (frames : List (List ℕ)) (ended : Ended) (x : Session v T R E frames ended) → frames ≢ [] → AcceptsFirst v T x.course
+pub frames_follow_accept : (v : Terms) (T : List Said) (R : List ℕ) (E : List Entry) (frames : List (List ℕ)) (ended : Ended) (x : Session v T R E frames ended) → frames ≢ []
+    → AcceptsFirst v T x.course
 frames_follow_accept v T R E frames ended x some =
     let c = x.course in
     let r = accepts v begun c.went_on c.last refl c.turns c.goes_on (λ e. some (x.received ∙ e)) in

@@ -1,5 +1,7 @@
 -- Who a session's Connects are for are those who asked to connect, of whom there is one at most.
-use Rattle.std.proofs.Common.{◌≡◌, ◌⊎◌, inl, inr, ℕ, ◌≤◌, Bool, true, false, cond, ◌&&◌, List, [], ◌∷◌, ◌++◌, length, Option, Some, None, Result, Ok, Err, is_some, option_to_list, refl, ap, sym, ◌∙◌, subst, lit≤, append-nil}
+-- It serves the clauses of `connects_are_asked`, `forwards_are_carried` and `policy_is_followed`.
+use Rattle.std.proofs.Common.{◌≡◌, ◌⊎◌, inl, inr, ℕ, ◌≤◌, Bool, true, false, cond, ◌&&◌, List, [], ◌∷◌, ◌++◌, length, Option, Some, None, Result, Ok, Err, is_some, option_to_list}
+use Rattle.std.proofs.Common.{refl, ap, sym, ◌∙◌, subst, lit≤, append-nil}
 use Rattle.std.specs.Prelude.{if◌then◌else◌, is_none}
 use Rattle.std.proofs.lemmas.Grind.{flat_map-append}
 use Rattle.bsc_octets.specs.declared.identity.Identity.{Identity}
@@ -94,7 +96,8 @@ awaiting_named connected_now h = cc
 awaiting_named (disconnecting f) h = cc
 
 -- a Connect is made for who asks, where nothing is denied and the hub makes an entry
-asked_made : (v : Terms) (s x : Standing) (m : List ℕ) (who : Identity) (d : Option Denial) (answer : Option Answer) (lost fault : Option LinkFault) → denied_connect v.policy who ≡ d → is_some answer ≡ is_none d && true
+asked_made : (v : Terms) (s x : Standing) (m : List ℕ) (who : Identity) (d : Option Denial) (answer : Option Answer) (lost fault : Option LinkFault) → denied_connect v.policy who ≡ d
+    → is_some answer ≡ is_none d && true
     → Lacks (NoConnect v.policy answer true) (stop_message v x (Ask who) d answer lost fault) (who ∷ []) (connected (called v s (Ask who) (Ok (Message m)) answer))
 asked_made v s x m who (Some d) None lost fault is h = inr (who, inr (turned_away v.policy who d is), lost_or lost _ (λ e. cc), refl, refl)
 asked_made v s x m who (Some d) (Some a) lost fault is h = cc
@@ -103,7 +106,8 @@ asked_made v s x m who None (Some (replies place looks reply)) lost fault is h =
 asked_made v s x m who None (Some worn) lost fault is h = inr (who, inl (inl (inl refl)), lost_or lost _ (λ e. cc), refl, refl)
 asked_made v s x m who None (Some no_memory) lost fault is h = inr (who, inl (inl (inr refl)), lost_or lost _ (λ e. cc), refl, refl)
 
-passed_connects : (v : Terms) (s x : Standing) (m : List ℕ) (answer : Option Answer) (lost fault : Option LinkFault) (msg : Bvlc) (o : Option Identity) → who_asks msg.body ≡ o → ((who : Identity) → o ≡ Some who → standing s.events ≡ awaiting_request)
+passed_connects : (v : Terms) (s x : Standing) (m : List ℕ) (answer : Option Answer) (lost fault : Option LinkFault) (msg : Bvlc) (o : Option Identity) → who_asks msg.body ≡ o
+    → ((who : Identity) → o ≡ Some who → standing s.events ≡ awaiting_request)
     → is_some answer ≡ calls_hub v s (passed_step (standing s.events) msg) (Ok (Message m))
     → Lacks (NoConnect v.policy answer true) (stop_message v x (passed_step (standing s.events) msg) (denied_in v s (passed_step (standing s.events) msg) (Ok (Message m))) answer lost fault)
     (option_to_list o ++ []) (connected (called v s (passed_step (standing s.events) msg) (Ok (Message m)) answer))
@@ -112,7 +116,8 @@ passed_connects v s x m answer lost fault msg None is at_first calls =
 passed_connects v s x m answer lost fault msg (Some who) is at_first calls =
     let asks : passed_step (standing s.events) msg ≡ Ask who = ap (λ g. passed_step g msg) (at_first who refl) ∙ ap ask_step is in
     subst
-    (λ (st : Step). Lacks (NoConnect v.policy answer true) (stop_message v x st (denied_in v s st (Ok (Message m))) answer lost fault) (who ∷ []) (connected (called v s st (Ok (Message m)) answer))) (sym asks)
+    (λ (st : Step). Lacks (NoConnect v.policy answer true) (stop_message v x st (denied_in v s st (Ok (Message m))) answer lost fault) (who ∷ [])
+    (connected (called v s st (Ok (Message m)) answer))) (sym asks)
     (asked_made v s x m who (denied_connect v.policy who) answer lost fault refl (calls ∙ ap (λ (st : Step). calls_hub v s st (Ok (Message m))) asks))
 
 verdict_connects : (v : Terms) (s x : Standing) (m : List ℕ) (answer : Option Answer) (lost fault : Option LinkFault) (w : Verdict) → verdict_on v s m ≡ w
@@ -130,8 +135,10 @@ unjudged : (policy : Option Policy) (answer : Option Answer) (stop : Stop) (msg 
 unjudged policy answer stop msg None = inl refl
 unjudged policy answer stop msg (Some who) = inr (who, inl (inr refl), (λ e. cc), refl, refl)
 
-hearing_connects : (v : Terms) (s : Standing) (now : ℕ) (given : Result Incoming LinkFault) (judged : Bool) (answer : Option Answer) (lost fault : Option LinkFault) → IsHearing v s now (hearing given judged answer lost fault)
-    → Lacks (NoConnect v.policy answer judged) (stop_hearing v s now (hearing given judged answer lost fault)) (asked (message_by v s given)) (connected (entries_hearing v s now (hearing given judged answer lost fault)))
+hearing_connects : (v : Terms) (s : Standing) (now : ℕ) (given : Result Incoming LinkFault) (judged : Bool) (answer : Option Answer) (lost fault : Option LinkFault)
+    → IsHearing v s now (hearing given judged answer lost fault)
+    → Lacks (NoConnect v.policy answer judged) (stop_hearing v s now (hearing given judged answer lost fault)) (asked (message_by v s given))
+    (connected (entries_hearing v s now (hearing given judged answer lost fault)))
 hearing_connects v s now (Err f) true answer lost fault is = inl refl
 hearing_connects v s now (Err f) false answer lost fault is = inl refl
 hearing_connects v s now (Ok Closed) true answer lost fault is = inl refl
@@ -141,7 +148,8 @@ hearing_connects v s now (Ok Text) false answer lost fault is = inl refl
 hearing_connects v s now (Ok Quiet) true answer lost fault is = inl refl
 hearing_connects v s now (Ok Quiet) false answer lost fault is = inl refl
 hearing_connects v s now (Ok (Message m)) false answer lost fault is =
-    subst (λ (w : Verdict). Lacks (NoConnect v.policy answer false) (Some (stop_at NoMemory)) (asked_by w ++ []) []) (sym is.memory.1) (unjudged v.policy answer (stop_at NoMemory) is.memory.0 (who_asks is.memory.0.body))
+    subst (λ (w : Verdict). Lacks (NoConnect v.policy answer false) (Some (stop_at NoMemory)) (asked_by w ++ []) []) (sym is.memory.1)
+    (unjudged v.policy answer (stop_at NoMemory) is.memory.0 (who_asks is.memory.0.body))
 hearing_connects v s now (Ok (Message m)) true answer lost fault is = verdict_connects v s (at s now (verdict_on v s m)) m answer lost fault (verdict_on v s m) refl is.calls
 
 -- ---- a turn
@@ -151,7 +159,8 @@ turn_connects : (v : Terms) (s : Standing) (t : Turn) → IsTurn v s t
 turn_connects v s t is = by t.hearing is.hearing
   where
     by : (h : Option Hearing) → IsHearingIf v (opened s t.opening) t.opening.reading h
-        → Lacks (NoConnect v.policy (answer_in h) (judged_in h)) (stop_after v (opened s t.opening) t.opening.reading h) (asked (message_after v (opened s t.opening) h)) (connected (entries_after v (opened s t.opening) t.opening.reading h))
+        → Lacks (NoConnect v.policy (answer_in h) (judged_in h)) (stop_after v (opened s t.opening) t.opening.reading h) (asked (message_after v (opened s t.opening) h))
+        (connected (entries_after v (opened s t.opening) t.opening.reading h))
     by None heard = inl refl
     by (Some h) heard = hearing_connects v (opened s t.opening) t.opening.reading h.given h.judged h.answer h.lost h.fault heard
 
@@ -190,7 +199,8 @@ none_later v s (t ∷ ts) h = ap (λ (l : List Identity). l ++ shares Asks v (af
 one_then : (xs ys : List Identity) → length xs ≤ 1 → ys ≡ [] → length (xs ++ ys) ≤ 1
 one_then xs ys few none = subst (λ (l : List Identity). length l ≤ 1) (sym (ap (λ (l : List Identity). xs ++ l) none ∙ append-nil xs)) few
 
-asks_once : (v : Terms) (s : Standing) (ts : List Turn) (last : Option Turn) → is_in s ≡ false → EachTurn IsTurn v s (and_last ts last) → EachTurn TurnGoesOn v s ts → length (shares Asks v s (and_last ts last)) ≤ 1
+asks_once : (v : Terms) (s : Standing) (ts : List Turn) (last : Option Turn) → is_in s ≡ false → EachTurn IsTurn v s (and_last ts last) → EachTurn TurnGoesOn v s ts
+    → length (shares Asks v s (and_last ts last)) ≤ 1
 asks_once v s [] None out is on = lit≤ tt
 asks_once v s [] (Some t) out is on = one_then (Asks v s t) [] (few_in v (opened s t.opening) t.hearing) refl
 asks_once v s (t ∷ ts) last out is on = by last is (turn_goes v s t out (first_is last is) on.0) (λ l e f. asks_once v (after v s t) ts l f (later_are l e) on.1)
@@ -208,9 +218,11 @@ asks_once v s (t ∷ ts) last out is on = by last is (turn_goes v s t out (first
     split (Some u) = refl
 
     by : (l : Option Turn) → EachTurn IsTurn v s (and_last (t ∷ ts) l) → Waits (message_in v s t) (after v s t) ⊎ Joins v (message_in v s t) (said_in v s t) (after v s t)
-        → ((l : Option Turn) → EachTurn IsTurn v s (and_last (t ∷ ts) l) → is_in (after v s t) ≡ false → length (shares Asks v (after v s t) (and_last ts l)) ≤ 1) → length (shares Asks v s (and_last (t ∷ ts) l)) ≤ 1
+        → ((l : Option Turn) → EachTurn IsTurn v s (and_last (t ∷ ts) l) → is_in (after v s t) ≡ false → length (shares Asks v (after v s t) (and_last ts l)) ≤ 1)
+        → length (shares Asks v s (and_last (t ∷ ts) l)) ≤ 1
     by l e (inl w) rec = subst (λ (ws : List Identity). length ws ≤ 1) (sym (split l ∙ ap (λ (ws : List Identity). ws ++ shares Asks v (after v s t) (and_last ts l)) w.1)) (rec l e w.0)
-    by l e (inr j) rec = subst (λ (ws : List Identity). length ws ≤ 1) (sym (split l)) (one_then (Asks v s t) (shares Asks v (after v s t) (and_last ts l)) (subst (λ (k : ℕ). k ≤ 1) (sym j.one) (lit≤ tt)) (none_later v (after v s t) (and_last ts l) j.joined))
+    by l e (inr j) rec = subst (λ (ws : List Identity). length ws ≤ 1) (sym (split l))
+        (one_then (Asks v s t) (shares Asks v (after v s t) (and_last ts l)) (subst (λ (k : ℕ). k ≤ 1) (sym j.one) (lit≤ tt)) (none_later v (after v s t) (and_last ts l) j.joined))
 
 -- ---- a session
 
@@ -239,7 +251,8 @@ connects_are_asked v T R E frames ended x =
     ∙ append-nil (connected (entries_of c)) ∙ mapped_shares (λ (e : Entry). connected_in e.call) entries_in v begun (all_turns c) in
     let made = all_as (IsUnconnectedBy v.policy c.last) (asked (messages_of c)) (connected E) (shares Asks v begun (all_turns c)) (shares G v begun (all_turns c)) all done
     (all_but Asks G v
-    (λ s t tied is on. lacks_none (IsUnconnectedBy v.policy (Some t)) (stop_after v (opened s t.opening) t.opening.reading t.hearing) (Asks v s t) (G v s t) (turn_connects v s t is) (first_none (stop_before v s t.opening) (stop_after v (opened s t.opening) t.opening.reading t.hearing) on).1)
+    (λ s t tied is on. lacks_none (IsUnconnectedBy v.policy (Some t)) (stop_after v (opened s t.opening) t.opening.reading t.hearing) (Asks v s t) (G v s t) (turn_connects v s t is)
+    (first_none (stop_before v s t.opening) (stop_after v (opened s t.opening) t.opening.reading t.hearing) on).1)
     (IsUnconnectedBy v.policy)
     (λ s t tied is. lacks_last (IsUnconnectedBy v.policy (Some t)) (stop_after v (opened s t.opening) t.opening.reading t.hearing) (Asks v s t) (G v s t) (turn_connects v s t is))
     begun c.went_on c.last tied_begun c.turns c.goes_on) in

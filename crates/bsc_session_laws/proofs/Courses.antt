@@ -1,4 +1,5 @@
 -- What turns come to, one after the other: the last of them apart.
+-- It serves clauses of functions of `laws`.
 use Rattle.std.proofs.Common.{◌≡◌, inl, inr, List, [], ◌∷◌, ◌++◌, flat_map, Option, Some, None, refl, ap, sym, ◌∙◌, append_assoc}
 use Rattle.std.proofs.lemmas.Grind.{flat_map-append}
 use Rattle.bsc_session.specs.Course.{EachTurn, TurnGoesOn, and_last, shares, standing}

@@ -1,4 +1,5 @@
 -- What a session forwards is what came and is to be carried on; and the messages that are judged are those given.
+-- It serves clauses of functions of `laws`.
 use Rattle.std.proofs.Common.{◌≡◌, ◌≢◌, ◌⊎◌, inl, inr, ℕ, Bool, true, false, cond, ◌&&◌, List, [], ◌∷◌, ◌++◌, map, Option, Some, None, Result, Ok, Err, is_some, refl, ap, sym, ◌∙◌, append-nil}
 use Rattle.std.specs.Prelude.{is_none}
 use Rattle.bsc_octets.specs.declared.envelope.Envelope.{Envelope}
@@ -101,7 +102,8 @@ lost_or None later some = some
 lost_or (Some f) later some = λ e. cc
 
 -- what is carried is forwarded, where nothing is denied of it and the hub makes an entry
-carried_made : (v : Terms) (s x : Standing) (m : List ℕ) (envelope : Envelope) (d : Option Denial) (answer : Option Answer) (lost fault : Option LinkFault) → is_some s.conn ≡ true → is_some answer ≡ is_none d && true
+carried_made : (v : Terms) (s x : Standing) (m : List ℕ) (envelope : Envelope) (d : Option Denial) (answer : Option Answer) (lost fault : Option LinkFault) → is_some s.conn ≡ true
+    → is_some answer ≡ is_none d && true
     → Lacks (Unentered (Ok (Message m)) answer) (stop_message v x Up d answer lost fault) (allowed_by m (Carried envelope) d ++ []) (forwarded (called v s Up (Ok (Message m)) answer))
 carried_made v s x m envelope (Some d) None lost fault own h = inl refl
 carried_made v s x m envelope (Some d) (Some a) lost fault own h = cc
@@ -114,14 +116,18 @@ verdict_forwards : (v : Terms) (s x : Standing) (m : List ℕ) (answer : Option 
     → is_some answer ≡ calls_hub v s (message_step (standing s.events) w) (Ok (Message m))
     → Lacks (Unentered (Ok (Message m)) answer) (stop_message v x (message_step (standing s.events) w) (denied_in v s (message_step (standing s.events) w) (Ok (Message m))) answer lost fault)
     (allowed_by m w (denied_message v.policy s.address m) ++ []) (forwarded (called v s (message_step (standing s.events) w) (Ok (Message m)) answer))
-verdict_forwards v s x m answer lost fault tied (Pass msg) is calls = inl (sym (no_forward v s (passed_step (standing s.events) msg) (Ok (Message m)) answer (passed_not_carried (standing s.events) msg)))
+verdict_forwards v s x m answer lost fault tied (Pass msg) is calls = inl
+    (sym (no_forward v s (passed_step (standing s.events) msg) (Ok (Message m)) answer (passed_not_carried (standing s.events) msg)))
 verdict_forwards v s x m answer lost fault tied (Carried envelope) is calls =
-    carried_made v s x m envelope (denied_message v.policy s.address m) answer lost fault (sym tied ∙ connected_in (standing s.events) (carried_connected m (phase s.events) v.hub.max_bvlc envelope is)) calls
+    carried_made v s x m envelope (denied_message v.policy s.address m) answer lost fault
+    (sym tied ∙ connected_in (standing s.events) (carried_connected m (phase s.events) v.hub.max_bvlc envelope is)) calls
 verdict_forwards v s x m answer lost fault tied (Silent check) is calls = inl refl
 verdict_forwards v s x m answer lost fault tied (Nak check octets) is calls = inl refl
 
-hearing_forwards : (v : Terms) (s : Standing) (now : ℕ) (given : Result Incoming LinkFault) (judged : Bool) (answer : Option Answer) (lost fault : Option LinkFault) → Tied s → IsHearing v s now (hearing given judged answer lost fault)
-    → Lacks (Unentered given answer) (stop_hearing v s now (hearing given judged answer lost fault)) (allowed (message_by v s given)) (forwarded (entries_hearing v s now (hearing given judged answer lost fault)))
+hearing_forwards : (v : Terms) (s : Standing) (now : ℕ) (given : Result Incoming LinkFault) (judged : Bool) (answer : Option Answer) (lost fault : Option LinkFault) → Tied s
+    → IsHearing v s now (hearing given judged answer lost fault)
+    → Lacks (Unentered given answer) (stop_hearing v s now (hearing given judged answer lost fault)) (allowed (message_by v s given))
+    (forwarded (entries_hearing v s now (hearing given judged answer lost fault)))
 hearing_forwards v s now (Err f) true answer lost fault tied is = inl refl
 hearing_forwards v s now (Err f) false answer lost fault tied is = inl refl
 hearing_forwards v s now (Ok Closed) true answer lost fault tied is = inl refl
@@ -143,7 +149,8 @@ turn_forwards : (v : Terms) (s : Standing) (t : Turn) → Tied s → IsTurn v s 
 turn_forwards v s t tied is = by t.hearing is.hearing
   where
     by : (h : Option Hearing) → IsHearingIf v (opened s t.opening) t.opening.reading h
-        → Lacks (UnenteredIn h) (stop_after v (opened s t.opening) t.opening.reading h) (allowed (message_after v (opened s t.opening) h)) (forwarded (entries_after v (opened s t.opening) t.opening.reading h))
+        → Lacks (UnenteredIn h) (stop_after v (opened s t.opening) t.opening.reading h) (allowed (message_after v (opened s t.opening) h))
+        (forwarded (entries_after v (opened s t.opening) t.opening.reading h))
     by None heard = inl refl
     by (Some h) heard = hearing_forwards v (opened s t.opening) t.opening.reading h.given h.judged h.answer h.lost h.fault (tied_opened s t.opening tied) heard
 
@@ -167,7 +174,8 @@ forwards_made v T R E frames ended x =
     ∙ append-nil (forwarded (entries_of c)) ∙ mapped_shares (λ (e : Entry). forwarded_in e.call) entries_in v begun (all_turns c) in
     all_as (IsUnentered c.last) (allowed (messages_of c)) (forwarded E) (shares F v begun (all_turns c)) (shares G v begun (all_turns c)) all done
     (all_but F G v
-    (λ s t tied is on. lacks_none (IsUnentered (Some t)) (stop_after v (opened s t.opening) t.opening.reading t.hearing) (F v s t) (G v s t) (turn_forwards v s t tied is) (first_none (stop_before v s t.opening) (stop_after v (opened s t.opening) t.opening.reading t.hearing) on).1)
+    (λ s t tied is on. lacks_none (IsUnentered (Some t)) (stop_after v (opened s t.opening) t.opening.reading t.hearing) (F v s t) (G v s t) (turn_forwards v s t tied is)
+    (first_none (stop_before v s t.opening) (stop_after v (opened s t.opening) t.opening.reading t.hearing) on).1)
     IsUnentered
     (λ s t tied is. lacks_last (IsUnentered (Some t)) (stop_after v (opened s t.opening) t.opening.reading t.hearing) (F v s t) (G v s t) (turn_forwards v s t tied is))
     begun c.went_on c.last tied_begun c.turns c.goes_on)

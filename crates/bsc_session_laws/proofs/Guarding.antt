@@ -1,5 +1,7 @@
 -- A session that is guarded by a policy does as that says.
-use Rattle.std.proofs.Common.{◌≡◌, ◌⊎◌, inl, inr, ℕ, Bool, true, false, cond, ◌&&◌, List, [], ◌∷◌, ◌++◌, map, Option, Some, None, Result, Ok, Err, is_some, option_to_list, refl, ap, sym, ◌∙◌, subst, append_assoc}
+-- It serves the clauses of `policy_is_followed`.
+use Rattle.std.proofs.Common.{◌≡◌, ◌⊎◌, inl, inr, ℕ, Bool, true, false, cond, ◌&&◌, List, [], ◌∷◌, ◌++◌, map, Option, Some, None, Result, Ok, Err, is_some, option_to_list, refl}
+use Rattle.std.proofs.Common.{ap, sym, ◌∙◌, subst, append_assoc}
 use Rattle.std.specs.Prelude.{if◌then◌else◌, is_none}
 use Rattle.std.specs.List.{AllByRecursion}
 use Rattle.std.proofs.lemmas.Grind.{flat_map-append}
@@ -19,7 +21,7 @@ use Rattle.bsc_history.specs.declared.reply.Reply.{Reply}
 use Rattle.bsc_history.specs.declared.reply.Reply.TheVariants.{Joined, Refused}
 use Rattle.bsc_lines.specs.declared.denial.Denial.{Denial}
 use Rattle.bsc_lines.specs.declared.denial.Denial.TheVariants.{OfConnect, OfPair}
-use Rattle.bsc_notes.specs.Notes.{Note, denied, made}
+use Rattle.bsc_session.specs.Notes.Notes.{Note, denied, made}
 use Rattle.bsc_checks.specs.declared.verdict.Verdict.{Verdict}
 use Rattle.bsc_checks.specs.declared.verdict.Verdict.TheVariants.{Pass, Carry as Carried, Silent, Nak}
 use Rattle.bsc_edge.specs.declared.fault.LinkFault.{LinkFault}
@@ -127,7 +129,8 @@ among_right who xs ys k = (xs ++ k.0, k.1, ap (λ (l : List Identity). xs ++ l) 
 abbrev Came : Option Vmac → List Entry → Vmac → Type 0
 Came before E vmac = (before ≡ Some vmac) ⊎ IsConnectedAs E vmac
 
-came_answered : (v : Terms) (x s : Standing) (st : Step) (given : Result Incoming LinkFault) (a : Option Answer) (vmac : Vmac) → (answered s st a).address ≡ Some vmac → Came s.address (called v x st given a) vmac
+came_answered : (v : Terms) (x s : Standing) (st : Step) (given : Result Incoming LinkFault) (a : Option Answer) (vmac : Vmac) → (answered s st a).address ≡ Some vmac
+    → Came s.address (called v x st given a) vmac
 came_answered v x s (Ask who) given (Some (replies place l (Joined c r))) vmac e = inr (who, ([], [], refl), same_Some who.vmac vmac e)
 came_answered v x s st given a vmac e = inl e
 
@@ -165,7 +168,8 @@ came_turns v s (t ∷ ts) vmac e = by (came_turns v (after v s t) ts vmac e)
     by (inl k) = here (came_turn v s t vmac k)
     by (inr k) = inr (k.0, among_behind k.0 (entries_in v s t) (shares entries_in v (after v s t) ts) k.1, k.2)
 
-connected_as : (v : Terms) (T : List Said) (R : List ℕ) (E : List Entry) (frames : List (List ℕ)) (ended : Ended) (x : Session v T R E frames ended) (vmac : Vmac) → (end_of x.course).address ≡ Some vmac → IsConnectedAs E vmac
+connected_as : (v : Terms) (T : List Said) (R : List ℕ) (E : List Entry) (frames : List (List ℕ)) (ended : Ended) (x : Session v T R E frames ended) (vmac : Vmac)
+    → (end_of x.course).address ≡ Some vmac → IsConnectedAs E vmac
 connected_as v T R E frames ended x vmac e = by (came_turns v begun (all_turns x.course) vmac e)
   where
     by : Came begun.address (entries_of x.course) vmac → IsConnectedAs E vmac
@@ -212,7 +216,8 @@ address_allowed p (Some to) end fs k e = through_allowed p to end fs e
 
 -- ---- who asks is among those who asked
 
-denies_more : (p : Policy) (end : Option Vmac) (xs ys : List Identity) (ns : List Note) → ((who : Identity) → IsAmong who xs → IsAmong who ys) → AllByRecursion (DeniesIfNoted p end xs) ns → AllByRecursion (DeniesIfNoted p end ys) ns
+denies_more : (p : Policy) (end : Option Vmac) (xs ys : List Identity) (ns : List Note) → ((who : Identity) → IsAmong who xs → IsAmong who ys) → AllByRecursion (DeniesIfNoted p end xs) ns
+    → AllByRecursion (DeniesIfNoted p end ys) ns
 denies_more p end xs ys [] more all = tt
 denies_more p end xs ys (made place e ∷ ns) more all = (tt, denies_more p end xs ys ns more all.1)
 denies_more p end xs ys (denied (OfConnect vmac) ∷ ns) more all = ((all.0.0, more all.0.0 all.0.1, all.0.2, all.0.3), denies_more p end xs ys ns more all.1)
@@ -230,7 +235,8 @@ step_asked awaiting_request (Nak check octets) who e = cc
 step_asked connected (Nak check octets) who e = cc
 step_asked (disconnecting f) (Nak check octets) who e = cc
 
-heard_asked : (v : Terms) (s : Standing) (now : ℕ) (judged : Bool) (given : Result Incoming LinkFault) (who : Identity) → heard_step v s now judged given ≡ Ask who → asked (message_by v s given) ≡ who ∷ []
+heard_asked : (v : Terms) (s : Standing) (now : ℕ) (judged : Bool) (given : Result Incoming LinkFault) (who : Identity) → heard_step v s now judged given ≡ Ask who
+    → asked (message_by v s given) ≡ who ∷ []
 heard_asked v s now true (Ok (Message m)) who e = step_asked (standing s.events) (verdict_on v s m) who e
 heard_asked v s now true (Ok Closed) who e = cc
 heard_asked v s now true (Ok Text) who e = cc
@@ -240,7 +246,8 @@ heard_asked v s now false given who e = cc
 
 -- ---- what is denied
 
-frame_denied : (p : Policy) (to : Vmac) (end : Option Vmac) (asks : List Identity) (f : List ℕ) (rest : List Denial) → end ≡ Some to → (w : Decision) → decided_of p.members.items p.rules.items (origin f) to ≡ w
+frame_denied : (p : Policy) (to : Vmac) (end : Option Vmac) (asks : List Identity) (f : List ℕ) (rest : List Denial) → end ≡ Some to → (w : Decision)
+    → decided_of p.members.items p.rules.items (origin f) to ≡ w
     → AllByRecursion (DeniesIfNoted p end asks) (map denied rest) → AllByRecursion (DeniesIfNoted p end asks) (map denied (if_any (denied_by w (origin f) to) ++ rest))
 frame_denied p to end asks f rest e (Allowed rule) is all = all
 frame_denied p to end asks f rest e (Denied rule) is all = ((inr e, is), all)
@@ -251,7 +258,8 @@ frames_denied p None end asks (f ∷ fs) e = frames_denied p None end asks fs e
 frames_denied p (Some to) end asks (f ∷ fs) e =
     frame_denied p to end asks f (denials_by p (Some to) fs) e (decided_of p.members.items p.rules.items (origin f) to) refl (frames_denied p (Some to) end asks fs e)
 
-pair_denied : (p : Policy) (from to : Vmac) (end : Option Vmac) (asks : List Identity) → end ≡ Some from → (w : Decision) → decided_of p.members.items p.rules.items from to ≡ w → AllByRecursion (DeniesIfNoted p end asks) (map denied (if_any (denied_by w from to)))
+pair_denied : (p : Policy) (from to : Vmac) (end : Option Vmac) (asks : List Identity) → end ≡ Some from → (w : Decision) → decided_of p.members.items p.rules.items from to ≡ w
+    → AllByRecursion (DeniesIfNoted p end asks) (map denied (if_any (denied_by w from to)))
 pair_denied p from to end asks e (Allowed rule) is = tt
 pair_denied p from to end asks e (Denied rule) is = ((inl e, is), tt)
 
@@ -260,7 +268,8 @@ unicast_denied : (p : Policy) (from : Vmac) (end : Option Vmac) (asks : List Ide
 unicast_denied p from end asks m true e = tt
 unicast_denied p from end asks m false e = pair_denied p from (destination m) end asks e (decided_of p.members.items p.rules.items from (destination m)) refl
 
-message_denied : (p : Policy) (a end : Option Vmac) (asks : List Identity) (m : List ℕ) → ((from : Vmac) → a ≡ Some from → end ≡ Some from) → AllByRecursion (DeniesIfNoted p end asks) (map denied (if_any (denied_from p a m)))
+message_denied : (p : Policy) (a end : Option Vmac) (asks : List Identity) (m : List ℕ) → ((from : Vmac) → a ≡ Some from → end ≡ Some from)
+    → AllByRecursion (DeniesIfNoted p end asks) (map denied (if_any (denied_from p a m)))
 message_denied p None end asks m at_end = tt
 message_denied p (Some from) end asks m at_end = unicast_denied p from end asks m (is_broadcast m) (at_end from refl)
 
@@ -269,7 +278,8 @@ connect_denied : (p : Policy) (end : Option Vmac) (asks : List Identity) (who : 
 connect_denied p end asks who true is among = tt
 connect_denied p end asks who false is among = ((who, among, refl, is), tt)
 
-step_denied : (p : Policy) (a end : Option Vmac) (asks : List Identity) (st : Step) (given : Result Incoming LinkFault) → ((who : Identity) → st ≡ Ask who → IsAmong who asks) → ((from : Vmac) → a ≡ Some from → end ≡ Some from)
+step_denied : (p : Policy) (a end : Option Vmac) (asks : List Identity) (st : Step) (given : Result Incoming LinkFault) → ((who : Identity) → st ≡ Ask who → IsAmong who asks)
+    → ((from : Vmac) → a ≡ Some from → end ≡ Some from)
     → AllByRecursion (DeniesIfNoted p end asks) (map denied (if_any (denial_of (Some p) a st given)))
 step_denied p a end asks (Ask who) given among at_end = connect_denied p end asks who (is_admitted p.members.items who) refl (among who refl)
 step_denied p a end asks Up (Ok (Message m)) among at_end = message_denied p a end asks m at_end
@@ -303,20 +313,24 @@ pair_allowed : (p : Policy) (from to : Vmac) (w : Decision) → decided_of p.mem
 pair_allowed p from to (Allowed rule) is h = (rule, is)
 pair_allowed p from to (Denied rule) is h = cc
 
-unicast_allowed : (p : Policy) (from : Vmac) (m : List ℕ) (b : Bool) → true ≡ is_none (if b then None else denied_pair p from (Some (destination m))) && true → b ≡ false → Allows p from (destination m)
+unicast_allowed : (p : Policy) (from : Vmac) (m : List ℕ) (b : Bool) → true ≡ is_none (if b then None else denied_pair p from (Some (destination m))) && true → b ≡ false
+    → Allows p from (destination m)
 unicast_allowed p from m true h out = cc
 unicast_allowed p from m false h out = pair_allowed p from (destination m) (decided_of p.members.items p.rules.items from (destination m)) refl h
 
-message_allowed : (p : Policy) (a end : Option Vmac) (m : List ℕ) → is_some a ≡ true → end ≡ a → true ≡ is_none (denied_from p a m) && true → is_broadcast m ≡ false → (from : Vmac) × (end ≡ Some from) × Allows p from (destination m)
+message_allowed : (p : Policy) (a end : Option Vmac) (m : List ℕ) → is_some a ≡ true → end ≡ a → true ≡ is_none (denied_from p a m) && true → is_broadcast m ≡ false → (from : Vmac)
+    × (end ≡ Some from) × Allows p from (destination m)
 message_allowed p None end m k e h out = cc
 message_allowed p (Some from) end m k e h out = (from, e, unicast_allowed p from m (is_broadcast m) h out)
 
-forward_allowed : (v : Terms) (p : Policy) (conn : Option ℕ) (a end : Option Vmac) (m : List ℕ) (looks : List Look) (reply : Reply) → ((c : ℕ) → conn ≡ Some c → (is_some a ≡ true) × (end ≡ a)) → true ≡ is_none (denied_from p a m) && true
+forward_allowed : (v : Terms) (p : Policy) (conn : Option ℕ) (a end : Option Vmac) (m : List ℕ) (looks : List Look) (reply : Reply)
+    → ((c : ℕ) → conn ≡ Some c → (is_some a ≡ true) × (end ≡ a)) → true ≡ is_none (denied_from p a m) && true
     → AllByRecursion (λ (e : Entry). AllowsCall p end e.call) (forwarded_by v conn m looks reply)
 forward_allowed v p None a end m looks reply own h = tt
 forward_allowed v p (Some c) a end m looks reply own h = (message_allowed p a end m (own c refl).0 (own c refl).1 h, tt)
 
-called_allowed : (v : Terms) (p : Policy) (s : Standing) (st : Step) (given : Result Incoming LinkFault) (answer : Option Answer) (end : Option Vmac) → v.policy ≡ Some p → ((c : ℕ) → s.conn ≡ Some c → (is_some s.address ≡ true) × (end ≡ s.address))
+called_allowed : (v : Terms) (p : Policy) (s : Standing) (st : Step) (given : Result Incoming LinkFault) (answer : Option Answer) (end : Option Vmac) → v.policy ≡ Some p
+    → ((c : ℕ) → s.conn ≡ Some c → (is_some s.address ≡ true) × (end ≡ s.address))
     → is_some answer ≡ calls_hub v s st given → AllByRecursion (λ (e : Entry). AllowsCall p end e.call) (called v s st given answer)
 called_allowed v p s (Ask who) given (Some (replies place looks reply)) end guarded own calls =
     (admitted (is_admitted p.members.items who) (OfConnect who.vmac) (calls ∙ ap (λ (q : Option Policy). is_none (denied_connect q who) && true) guarded), tt)
@@ -350,7 +364,8 @@ module _ (v : Terms) (p : Policy) (guarded : v.policy ≡ Some p) where
     frames_here = by (is_in s) refl
       where
         by : (b : Bool) → is_in s ≡ b → AllByRecursion (AllowsFrame p end) (put_in v s t)
-        by true k = subst (λ (q : Option Policy). AllByRecursion (AllowsFrame p end) (let_through q s.address t.opening.frames)) (sym guarded) (address_allowed p s.address end t.opening.frames (sym placed ∙ k) (at_end k))
+        by true k = subst (λ (q : Option Policy). AllByRecursion (AllowsFrame p end) (let_through q s.address t.opening.frames)) (sym guarded)
+            (address_allowed p s.address end t.opening.frames (sym placed ∙ k) (at_end k))
         by false k = subst (AllByRecursion (AllowsFrame p end)) (sym (none_put v s t k is)) tt
 
     own_here : Tied s → (c : ℕ) → (opened s t.opening).conn ≡ Some c → (is_some (opened s t.opening).address ≡ true) × (end ≡ (opened s t.opening).address)
@@ -361,7 +376,8 @@ module _ (v : Terms) (p : Policy) (guarded : v.policy ≡ Some p) where
     calls_here : Tied s → AllByRecursion (λ (e : Entry). AllowsCall p end e.call) (entries_in v s t)
     calls_here tied = by t.hearing is.hearing
       where
-        by : (h : Option Hearing) → IsHearingIf v (opened s t.opening) t.opening.reading h → AllByRecursion (λ (e : Entry). AllowsCall p end e.call) (entries_after v (opened s t.opening) t.opening.reading h)
+        by : (h : Option Hearing) → IsHearingIf v (opened s t.opening) t.opening.reading h
+            → AllByRecursion (λ (e : Entry). AllowsCall p end e.call) (entries_after v (opened s t.opening) t.opening.reading h)
         by None heard = tt
         by (Some h) heard = called_allowed v p (opened s t.opening) (step_of v (opened s t.opening) t.opening.reading h) h.given h.answer end guarded (own_here tied) heard.calls
 
@@ -370,7 +386,8 @@ module _ (v : Terms) (p : Policy) (guarded : v.policy ≡ Some p) where
       where
         by : (b : Bool) → is_in s ≡ b → AllByRecursion (DeniesIfNoted p end (asks_in v s t)) (map denied (denials_by p s.address t.opening.frames))
         by true k = frames_denied p s.address end (asks_in v s t) t.opening.frames (at_end k)
-        by false k = subst (λ (fs : List (List ℕ)). AllByRecursion (DeniesIfNoted p end (asks_in v s t)) (map denied (denials_by p s.address fs))) (sym (takes_none v s t.opening k is.opening.takes).0) tt
+        by false k = subst (λ (fs : List (List ℕ)). AllByRecursion (DeniesIfNoted p end (asks_in v s t)) (map denied (denials_by p s.address fs)))
+            (sym (takes_none v s t.opening k is.opening.takes).0) tt
 
     from_end : (from : Vmac) → (opened s t.opening).address ≡ Some from → end ≡ Some from
     from_end from e =
@@ -378,7 +395,8 @@ module _ (v : Terms) (p : Policy) (guarded : v.policy ≡ Some p) where
         at_end (placed ∙ ap is_some now) ∙ now
 
     denials_here : AllByRecursion (DeniesIfNoted p end (asks_in v s t)) (notes_in v s t)
-    denials_here = all_append (DeniesIfNoted p end (asks_in v s t)) (map denied (denials v.policy s.address t.opening.frames)) (notes_after v (opened s t.opening) t.opening.reading t.hearing) opening_denied (by t.hearing)
+    denials_here = all_append (DeniesIfNoted p end (asks_in v s t)) (map denied (denials v.policy s.address t.opening.frames))
+        (notes_after v (opened s t.opening) t.opening.reading t.hearing) opening_denied (by t.hearing)
       where
         by : (h : Option Hearing) → AllByRecursion (DeniesIfNoted p end (asked (message_after v (opened s t.opening) h))) (notes_after v (opened s t.opening) t.opening.reading h)
         by None = tt
@@ -395,13 +413,16 @@ module _ (v : Terms) (p : Policy) (guarded : v.policy ≡ Some p) where
   frames_turns s [] placed is = tt
   frames_turns s (t ∷ ts) placed is =
       let end = (stands_after_all v (after v s t) ts).address in
-      all_append (AllowsFrame p end) (put_in v s t) (shares put_in v (after v s t) ts) (frames_here s t end (end_is v s t ts) placed is.0) (frames_turns (after v s t) ts (placed_after v s t placed) is.1)
+      all_append (AllowsFrame p end) (put_in v s t) (shares put_in v (after v s t) ts) (frames_here s t end (end_is v s t ts) placed is.0)
+      (frames_turns (after v s t) ts (placed_after v s t placed) is.1)
 
-  calls_turns : (s : Standing) (ts : List Turn) → Tied s → Placed s → EachTurn IsTurn v s ts → AllByRecursion (λ (e : Entry). AllowsCall p (stands_after_all v s ts).address e.call) (shares entries_in v s ts)
+  calls_turns : (s : Standing) (ts : List Turn) → Tied s → Placed s → EachTurn IsTurn v s ts
+      → AllByRecursion (λ (e : Entry). AllowsCall p (stands_after_all v s ts).address e.call) (shares entries_in v s ts)
   calls_turns s [] tied placed is = tt
   calls_turns s (t ∷ ts) tied placed is =
       let end = (stands_after_all v (after v s t) ts).address in
-      all_append (λ (e : Entry). AllowsCall p end e.call) (entries_in v s t) (shares entries_in v (after v s t) ts) (calls_here s t end (end_is v s t ts) placed is.0 tied) (calls_turns (after v s t) ts (tied_after v s t tied) (placed_after v s t placed) is.1)
+      all_append (λ (e : Entry). AllowsCall p end e.call) (entries_in v s t) (shares entries_in v (after v s t) ts) (calls_here s t end (end_is v s t ts) placed is.0 tied)
+      (calls_turns (after v s t) ts (tied_after v s t tied) (placed_after v s t placed) is.1)
 
   denials_turns : (s : Standing) (ts : List Turn) → Placed s → EachTurn IsTurn v s ts
       → AllByRecursion (DeniesIfNoted p (stands_after_all v s ts).address (shares asks_in v s ts)) (shares notes_in v s ts)
@@ -424,7 +445,8 @@ leave_denied : (p : Policy) (end : Option Vmac) (asks : List Identity) (lost : O
 leave_denied p end asks None place E = entries_denied p end asks place E
 leave_denied p end asks (Some fault) place E = tt
 
-pub policy_is_followed : (v : Terms) (T : List Said) (R : List ℕ) (E : List Entry) (frames : List (List ℕ)) (ended : Ended) (x : Session v T R E frames ended) → PolicyIsFollowed v T E frames (journal_of x) x.course
+pub policy_is_followed : (v : Terms) (T : List Said) (R : List ℕ) (E : List Entry) (frames : List (List ℕ)) (ended : Ended) (x : Session v T R E frames ended)
+    → PolicyIsFollowed v T E frames (journal_of x) x.course
 policy_is_followed v T R E frames ended x =
     let c = x.course in
     let end = (end_of c).address in
@@ -438,8 +460,10 @@ policy_is_followed v T R E frames ended x =
       guarded = λ p guarded. record {
         frames = frames_turns v p guarded begun (all_turns c) refl c.turns;
         calls = subst (AllByRecursion (λ (e : Entry). AllowsCall p end e.call)) (sym x.entries)
-            (all_append (λ (e : Entry). AllowsCall p end e.call) (entries_of c) left (calls_turns v p guarded begun (all_turns c) tied_begun refl c.turns) (leave_allowed p end v.caller ended.conn ended.taken ended.empties x.reply));
+            (all_append (λ (e : Entry). AllowsCall p end e.call) (entries_of c) left (calls_turns v p guarded begun (all_turns c) tied_begun refl c.turns)
+            (leave_allowed p end v.caller ended.conn ended.taken ended.empties x.reply));
         denials = subst (λ (asks : List Identity). AllByRecursion (DeniesIfNoted p end asks) (journal_of x)) (sym all)
-            (all_append (DeniesIfNoted p end those) (notes_of c) (noted_leaving c.stop.lost x.left_at (leave_of x)) (denials_turns v p guarded begun (all_turns c) refl c.turns) (leave_denied p end those c.stop.lost x.left_at (leave_of x)));
+            (all_append (DeniesIfNoted p end those) (notes_of c) (noted_leaving c.stop.lost x.left_at (leave_of x)) (denials_turns v p guarded begun (all_turns c) refl c.turns)
+            (leave_denied p end those c.stop.lost x.left_at (leave_of x)));
       };
     }

@@ -10,3 +10,4 @@ mod Ports
 mod Putting
 pub mod WorkedLaws
 mod WorkedPolicies
+pub mod Talks

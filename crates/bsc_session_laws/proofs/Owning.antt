@@ -1,4 +1,5 @@
 -- A session forwards by its own connection alone.
+-- It serves the clauses of `forwards_are_carried` and `policy_is_followed`.
 use Rattle.std.proofs.Common.{◌≡◌, ℕ, Bool, true, false, List, [], ◌∷◌, Option, Some, None, Result, Ok, Err, is_some, refl, ap, sym, ◌∙◌, subst}
 use Rattle.std.specs.List.{AllByRecursion}
 use Rattle.bsc_octets.specs.declared.identity.Identity.{Identity}
@@ -89,11 +90,13 @@ turns_keep v s (t ∷ ts) c tied is = turns_keep v (after v s t) ts c (tied_afte
 same_sender : (a b : ℕ) (m n : List ℕ) → Forward a m ≡ Forward b n → a ≡ b
 same_sender a b m n e = cc
 
-own_forward : (v : Terms) (conn end : Option ℕ) (m : List ℕ) (looks : List Look) (reply : Reply) → ((c : ℕ) → conn ≡ Some c → end ≡ Some c) → AllByRecursion (IsOfConnection end) (forwarded_by v conn m looks reply)
+own_forward : (v : Terms) (conn end : Option ℕ) (m : List ℕ) (looks : List Look) (reply : Reply) → ((c : ℕ) → conn ≡ Some c → end ≡ Some c)
+    → AllByRecursion (IsOfConnection end) (forwarded_by v conn m looks reply)
 own_forward v None end m looks reply keeps = tt
 own_forward v (Some c) end m looks reply keeps = ((λ sender n e. keeps c refl ∙ ap Some (same_sender c sender m n e)), tt)
 
-own_called : (v : Terms) (s : Standing) (st : Step) (given : Result Incoming LinkFault) (answer : Option Answer) (end : Option ℕ) → ((c : ℕ) → s.conn ≡ Some c → end ≡ Some c) → AllByRecursion (IsOfConnection end) (called v s st given answer)
+own_called : (v : Terms) (s : Standing) (st : Step) (given : Result Incoming LinkFault) (answer : Option Answer) (end : Option ℕ) → ((c : ℕ) → s.conn ≡ Some c → end ≡ Some c)
+    → AllByRecursion (IsOfConnection end) (called v s st given answer)
 own_called v s (Ask who) given (Some (replies place looks reply)) end keeps = ((λ sender n e. cc), tt)
 own_called v s (Ask who) given (Some worn) end keeps = tt
 own_called v s (Ask who) given (Some no_memory) end keeps = tt
@@ -133,7 +136,8 @@ pub forwards_are_carried : (v : Terms) (T : List Said) (R : List ℕ) (E : List 
 forwards_are_carried v T R E frames ended x =
     let c = x.course in
     let left = leaving v.caller ended.conn ended.taken ended.empties x.reply in
-    let own = all_append (IsOfConnection (end_of c).conn) (entries_of c) left (own_turns v begun (all_turns c) tied_begun) (own_leave v.caller ended.conn (end_of c).conn ended.taken ended.empties x.reply) in
+    let own = all_append (IsOfConnection (end_of c).conn) (entries_of c) left (own_turns v begun (all_turns c) tied_begun)
+    (own_leave v.caller ended.conn (end_of c).conn ended.taken ended.empties x.reply) in
     record {
       made = forwards_made v T R E frames ended x;
       unguarded = λ bare. forwards_made_bare v T R E frames ended x bare;

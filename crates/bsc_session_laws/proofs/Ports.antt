@@ -1,4 +1,5 @@
 -- A session does what its port does.
+-- It serves the clauses of `sessions_follow_ports`.
 use Rattle.std.proofs.Common.{◌≡◌, ℕ, true, is_none, ◌&&◌, List, [], Option, Some, None, Ok, refl}
 use Rattle.bsc_octets.specs.declared.identity.Identity.{Identity}
 use Rattle.bsc_lines.specs.declared.denial.Denial.{Denial}

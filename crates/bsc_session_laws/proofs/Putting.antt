@@ -1,4 +1,5 @@
 -- The Encapsulated-NPDUs that a session puts are the frames from its outlet.
+-- It serves the clauses of `npdus_are_taken`.
 use Rattle.std.proofs.Common.{◌≡◌, ℕ, Bool, true, false, cond, List, [], ◌∷◌, ◌++◌, Option, Some, None, Result, Ok, Err, refl, ap, sym, ◌∙◌, append-nil}
 use Rattle.std.proofs.lemmas.Grind.{flat_map-append}
 use Rattle.std.proofs.lemmas.List.Elements.{filter-append}
@@ -127,7 +128,8 @@ closing_puts_none (Some c) = refl
 
 -- the law by which frames are put
 abbrev pub PolicyLaw : Type 0
-PolicyLaw = (v : Terms) (T : List Said) (R : List ℕ) (E : List Entry) (frames : List (List ℕ)) (ended : Ended) → (x : Session v T R E frames ended) → PolicyIsFollowed v T E frames (journal_of x) x.course
+PolicyLaw = (v : Terms) (T : List Said) (R : List ℕ) (E : List Entry) (frames : List (List ℕ)) (ended : Ended) → (x : Session v T R E frames ended)
+    → PolicyIsFollowed v T E frames (journal_of x) x.course
 
 pub are_taken : PolicyLaw → (v : Terms) (T : List Said) (R : List ℕ) (E : List Entry) (frames : List (List ℕ)) (ended : Ended) (x : Session v T R E frames ended) → NpdusAreTaken v T frames x.course
 are_taken law v T R E frames ended x =

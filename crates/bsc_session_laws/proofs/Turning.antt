@@ -1,4 +1,5 @@
 -- Who has joined, from turn to turn, and what a turn comes to before anybody has.
+-- It serves clauses of functions of `laws`.
 use Rattle.std.proofs.Common.{◌≡◌, ◌⊎◌, inl, inr, ℕ, Bool, true, false, ◌&&◌, List, [], ◌∷◌, ◌++◌, length, Option, Some, None, Result, Ok, Err, is_some, option_to_list, refl, ap, sym, ◌∙◌, subst}
 use Rattle.std.specs.Prelude.{is_none}
 use Rattle.std.proofs.lemmas.Bool.{both_ways}
@@ -123,7 +124,8 @@ unconnected (disconnecting f) h = cc
 
 -- nothing is taken from the outlet then, and no End is met
 pub takes_none : (v : Terms) (s : Standing) (o : Opening) → is_in s ≡ false → Looks v s o.reading ⊎ ((o.frames ≡ []) × (o.met ≡ None)) → (o.frames ≡ []) × (o.met ≡ None)
-takes_none v s o out (inl looks) = absurd (both_ways (is_connected (ticked s o.reading)) (unconnected (standing (ticked s o.reading).events) (told_in (started s o.reading) (Tick o.reading) refl ∙ out)) looks.0)
+takes_none v s o out (inl looks) = absurd (both_ways (is_connected (ticked s o.reading))
+    (unconnected (standing (ticked s o.reading).events) (told_in (started s o.reading) (Tick o.reading) refl ∙ out)) looks.0)
 takes_none v s o out (inr none) = none
 
 -- and so the receive isn't only a look
@@ -163,11 +165,13 @@ at s now w = received_one (told s (Came now w))
 abbrev GoesBy : Terms → Standing → ℕ → List ℕ → Option Answer → Option LinkFault → Option LinkFault → Verdict → Step → Option Denial → Type 0
 GoesBy v s now m answer lost fault w st d =
     AnswerFits st answer → is_some answer ≡ is_none d && calls st → stop_message v (at s now w) st d answer lost fault ≡ None
-    → OpeningGoes v (message m w (denied_message v.policy s.address m)) (Gave full_wait (Ok (Message m)) ∷ puts (put_unless lost (octets_in (last_wanted v (at s now w) st answer))) fault) (answered (at s now w) st answer)
+    → OpeningGoes v (message m w (denied_message v.policy s.address m)) (Gave full_wait (Ok (Message m)) ∷ puts (put_unless lost (octets_in (last_wanted v (at s now w) st answer))) fault)
+    (answered (at s now w) st answer)
 
 module _ (v : Terms) (s : Standing) (now : ℕ) (m : List ℕ) (fault : Option LinkFault) (out : is_in s ≡ false) where
   -- who asks joins, where the session goes on
-  ask_goes : (msg : Bvlc) (who : Identity) → who_asks msg.body ≡ Some who → (lost : Option LinkFault) (d : Option Denial) (answer : Option Answer) → GoesBy v s now m answer lost fault (Pass msg) (Ask who) d
+  ask_goes : (msg : Bvlc) (who : Identity) → who_asks msg.body ≡ Some who → (lost : Option LinkFault) (d : Option Denial) (answer : Option Answer)
+      → GoesBy v s now m answer lost fault (Pass msg) (Ask who) d
   ask_goes msg who asks (Some f) d answer fits called stop = cc
   ask_goes msg who asks None (Some d) answer fits called stop = cc
   ask_goes msg who asks None None None fits called stop = cc
@@ -176,12 +180,14 @@ module _ (v : Terms) (s : Standing) (now : ℕ) (m : List ℕ) (fault : Option L
   ask_goes msg who asks None None (Some (replies place looks (Joined c replaced))) fits called stop = inr (record {
     request = m;
     id = asked_id (at s now (Pass msg)).events;
-    said_so = ap (λ (f : Option LinkFault). Gave full_wait (Ok (Message m)) ∷ Put (spelling (connect_accept (asked_id (at s now (Pass msg)).events) v.hub)) f ∷ []) (fault_none fault (first_none (stop_if fault) None stop).0);
+    said_so = ap (λ (f : Option LinkFault). Gave full_wait (Ok (Message m)) ∷ Put (spelling (connect_accept (asked_id (at s now (Pass msg)).events) v.hub)) f ∷ [])
+        (fault_none fault (first_none (stop_if fault) None stop).0);
     joined = told_joined_in (at s now (Pass msg));
     one = ap (λ (o : Option Identity). length (option_to_list o ++ [])) asks;
   })
   ask_goes msg who asks None None (Some (replies place looks (Refused r))) fits called stop =
-      absurd (closes_none (WhyRefused r) r (asked_id (at s now (Pass msg)).events) (first_none (stop_if fault) (closes (WhyRefused r) (closing_in (refused_step (asked_id (at s now (Pass msg)).events) r))) stop).1)
+      absurd (closes_none (WhyRefused r) r (asked_id (at s now (Pass msg)).events)
+      (first_none (stop_if fault) (closes (WhyRefused r) (closing_in (refused_step (asked_id (at s now (Pass msg)).events) r))) stop).1)
   ask_goes msg who asks None None (Some (replies place looks (Appended c))) fits called stop = absurd fits
   ask_goes msg who asks None None (Some (replies place looks (ClosedReply c))) fits called stop = absurd fits
   ask_goes msg who asks None None (Some (replies place looks (Skipped c))) fits called stop = absurd fits
@@ -192,13 +198,16 @@ module _ (v : Terms) (s : Standing) (now : ℕ) (m : List ℕ) (fault : Option L
   ask_goes msg who asks None None (Some (replies place looks (Gone e taken))) fits called stop = absurd fits
   ask_goes msg who asks None None (Some (replies place looks (Counted k))) fits called stop = absurd fits
 
-  asked_goes : (msg : Bvlc) (o : Option Identity) → who_asks msg.body ≡ o → (lost : Option LinkFault) (answer : Option Answer) → GoesBy v s now m answer lost fault (Pass msg) (ask_step o) (denied_in v s (ask_step o) (Ok (Message m)))
+  asked_goes : (msg : Bvlc) (o : Option Identity) → who_asks msg.body ≡ o → (lost : Option LinkFault) (answer : Option Answer)
+      → GoesBy v s now m answer lost fault (Pass msg) (ask_step o) (denied_in v s (ask_step o) (Ok (Message m)))
   asked_goes msg None asks lost answer fits called stop = inl (told_in s (Came now (Pass msg)) refl ∙ out, ap (λ (o : Option Identity). option_to_list o ++ []) asks)
   asked_goes msg (Some who) asks lost answer fits called stop = ask_goes msg who asks lost (denied_in v s (Ask who) (Ok (Message m))) answer fits called stop
 
-  verdict_goes : (w : Verdict) (lost : Option LinkFault) (answer : Option Answer) → GoesBy v s now m answer lost fault w (message_step (standing s.events) w) (denied_in v s (message_step (standing s.events) w) (Ok (Message m)))
+  verdict_goes : (w : Verdict) (lost : Option LinkFault) (answer : Option Answer)
+      → GoesBy v s now m answer lost fault w (message_step (standing s.events) w) (denied_in v s (message_step (standing s.events) w) (Ok (Message m)))
   verdict_goes (Pass msg) lost answer fits called stop =
-      subst (λ (st : Step). GoesBy v s now m answer lost fault (Pass msg) st (denied_in v s st (Ok (Message m)))) (sym (ap (λ g. passed_step g msg) (awaits (standing s.events) out))) (asked_goes msg (who_asks msg.body) refl lost answer) fits called stop
+      subst (λ (st : Step). GoesBy v s now m answer lost fault (Pass msg) st (denied_in v s st (Ok (Message m)))) (sym (ap (λ g. passed_step g msg) (awaits (standing s.events) out)))
+      (asked_goes msg (who_asks msg.body) refl lost answer) fits called stop
   verdict_goes (Carried envelope) lost answer fits called stop = inl (told_in s (Came now (Carried envelope)) refl ∙ out, refl)
   verdict_goes (Silent check) lost answer fits called stop = inl (told_in s (Came now (Silent check)) refl ∙ out, refl)
   verdict_goes (Nak check octets) lost answer fits called stop = inl (told_in s (Came now (Nak check octets)) refl ∙ out, refl)
@@ -236,7 +245,13 @@ turn_goes v s t out is goes = by t.hearing is.hearing (first_none (stop_before v
     behind : (h : Hearing) → OpeningGoes v (message_by v (opened s o) h.given) (said_hearing v (opened s o) o.reading full_wait h) (after_hearing v (opened s o) o.reading h)
         → OpeningGoes v (message_by v (opened s o) h.given) (puts (put_first v s o) o.fault ++ said_hearing v (opened s o) o.reading full_wait h) (after_hearing v (opened s o) o.reading h)
     behind h (inl w) = inl w
-    behind h (inr j) = inr (record { request = j.request; id = j.id; said_so = ap (λ (l : List Said). l ++ said_hearing v (opened s o) o.reading full_wait h) none ∙ j.said_so; joined = j.joined; one = j.one })
+    behind h (inr j) = inr (record {
+      request = j.request;
+      id = j.id;
+      said_so = ap (λ (l : List Said). l ++ said_hearing v (opened s o) o.reading full_wait h) none ∙ j.said_so;
+      joined = j.joined;
+      one = j.one;
+    })
 
     by : (hh : Option Hearing) → IsHearingIf v (opened s o) o.reading hh → stop_after v (opened s o) o.reading hh ≡ None
         → OpeningGoes v (message_after v (opened s o) hh) (puts (put_first v s o) o.fault ++ said_after v (opened s o) o.reading (wait_in o) hh) (stands_after v (opened s o) o.reading hh)

@@ -1,4 +1,5 @@
 -- In which phase a message is to be carried on, and in which one that asks to connect passes.
+-- It serves clauses of functions of `laws`.
 use Rattle.std.proofs.Common.{◌≡◌, inl, inr, ℕ, ◌==◌, Bool, true, false, not, ◌||◌, cond, List, [], ◌∷◌, ◌++◌, Some, None, true≢false, refl, ap, sym, ◌∙◌, subst}
 use Rattle.std.specs.List.{AllByRecursion}
 use Rattle.std.proofs.lemmas.Bool.{eqb-true, or_cases, true_from_ne_false}
@@ -30,11 +31,13 @@ abbrev at_port : Bool → Phase → List ℕ → Bool
 at_port b phase m = is_in_place b (HubPort phase) (function_in m) (origin_in m)
 
 -- a message that no check refuses is in place, whether it is to be carried on or not
-in_place : (m : List ℕ) (phase : Phase) (max : ℕ) (b : Bool) → announces_dest (flags_in m) ≡ b → first_failing (fails m (HubPort phase) max) (checks_of (HubPort phase) m) ≡ None → at_port b phase m ≡ true
+in_place : (m : List ℕ) (phase : Phase) (max : ℕ) (b : Bool) → announces_dest (flags_in m) ≡ b → first_failing (fails m (HubPort phase) max) (checks_of (HubPort phase) m) ≡ None
+    → at_port b phase m ≡ true
 in_place m phase max b is none = true_from_ne_false (at_port b phase m) (λ isnt. true≢false (ap not (sym isnt) ∙ ap (λ c. not (at_port c phase m)) (sym is) ∙ last b is))
   where
     all : (b : Bool) → announces_dest (flags_in m) ≡ b → AllByRecursion (λ k. fails m (HubPort phase) max k ≡ false) (head_checks ++ (cond b [] later_checks) ++ C13 ∷ [])
-    all b is = subst (λ (l : List Check). AllByRecursion (λ k. fails m (HubPort phase) max k ≡ false) l) (ap (λ (c : Bool). head_checks ++ (cond c [] later_checks) ++ C13 ∷ []) is) (none_fails (fails m (HubPort phase) max) (checks_of (HubPort phase) m) none)
+    all b is = subst (λ (l : List Check). AllByRecursion (λ k. fails m (HubPort phase) max k ≡ false) l) (ap (λ (c : Bool). head_checks ++ (cond c [] later_checks) ++ C13 ∷ []) is)
+        (none_fails (fails m (HubPort phase) max) (checks_of (HubPort phase) m) none)
 
     last : (b : Bool) → announces_dest (flags_in m) ≡ b → not (at_port (announces_dest (flags_in m)) phase m) ≡ false
     last true is = (all true is).1.1.1.1.1.0

@@ -1,5 +1,6 @@
 -- Talks written out, sessions by computation, and what the laws say of them, computed: A connects, sends to itself, gets its
 -- frame, and closes; the hub is worn when A sends; and the line of A's Connect isn't put into the journal.
+-- It serves bsc_network_of_runs.
 use Rattle.std.proofs.Common.{◌≡◌, ◌≢◌, ℕ, true, List, [], ◌∷◌, Some, None, Ok, refl, inl, inr, lit<, lit≤}
 use Rattle.bsc_octets.specs.Identities.{identity_of}
 use Rattle.bsc_history.specs.declared.ending.End.TheVariants.{Left}
@@ -19,7 +20,8 @@ use Rattle.bsc_session.specs.Stops.{stop_for, stop_unrecorded}
 use Rattle.bsc_session.specs.Taking.{full_wait}
 use Rattle.bsc_session.specs.Talk.{Session}
 use Rattle.bsc_session.specs.Turns.{Turn}
-use Rattle.bsc_session.proofs.TalkWords.{a_octets, accept, back, bare, connect, connects, forwarded as forwarded_as, forwards_to, given_at, hears, joined_as, joins, left_as, reads, terms, to_itself, told_by}
+use Rattle.bsc_session.proofs.TalkWords.{a_octets, accept, back, bare, connect, connects, forwarded as forwarded_as, forwards_to, given_at, hears, joined_as, joins, left_as, reads}
+use Rattle.bsc_session.proofs.TalkWords.{terms, to_itself, told_by}
 use Rattle.bsc_session_laws.specs.Laws.{AcceptsFirst, AreAllBut, ConnectsAreAsked, ForwardsAreCarried, IsUnentered}
 use Rattle.bsc_session_laws.specs.Messages.{asked, carried, connected, forwarded, message_in}
 use Rattle.bsc_session_laws.proofs.Accepting.{frames_follow_accept}
@@ -37,7 +39,10 @@ over = record { why = PeerClosed; conn = Some 1; taken = 1; empties = 2; turns =
 
 -- the last turn: the frame is put, and then the link is closed
 abbrev gets_back : Turn
-gets_back = record { opening = record { reading = 0; frames = back ∷ []; met = None; lost = None; fault = None }; hearing = Some (record { given = Ok Closed; judged = true; answer = None; lost = None; fault = None }) }
+gets_back = record {
+  opening = record { reading = 0; frames = back ∷ []; met = None; lost = None; fault = None };
+  hearing = Some (record { given = Ok Closed; judged = true; answer = None; lost = None; fault = None });
+}
 
 abbrev turns : List Turn
 turns = joins ∷ forwards_to 1 to_itself Appended ∷ gets_back ∷ []
@@ -53,7 +58,12 @@ a_hears_itself = told_by terms (record {
     (
       hears _ 0 _ _ _ _ (lit< tt) refl tt refl tt tt,
       (
-        record { room = lit< tt; opening = record { takes = inl (refl, refl); few = lit≤ tt; not_left = λ h. cc; line = tt; cause = tt }; heard = refl; hearing = record { memory = tt; calls = refl; fits = tt; line = tt; cause = tt } },
+        record {
+          room = lit< tt;
+          opening = record { takes = inl (refl, refl); few = lit≤ tt; not_left = λ h. cc; line = tt; cause = tt };
+          heard = refl;
+          hearing = record { memory = tt; calls = refl; fits = tt; line = tt; cause = tt };
+        },
         tt,
       ),
     ),

@@ -1,5 +1,6 @@
 -- What the laws say of a session that is guarded by a policy, computed: frames that come to A, a unicast of A that is denied,
 -- and A where it isn't admitted. A may send to itself; C and A may send each other nothing.
+-- No clause needs it: worked examples.
 use Rattle.std.proofs.Common.{◌≡◌, ℕ, true, false, List, [], ◌∷◌, Some, None, Ok, refl, inr, codes, replicate, lit<, lit≤}
 use Rattle.bsc_octets.specs.declared.device_id.DeviceId.{DeviceId}
 use Rattle.bsc_octets.specs.declared.vmac.Vmac.{Vmac}
@@ -13,7 +14,7 @@ use Rattle.bsc_edge.specs.declared.incoming.Incoming.TheVariants.{Message}
 use Rattle.bsc_edge.specs.declared.said.Said.TheVariants.{Closed as SaidClosed}
 use Rattle.bsc_accept.specs.declared.reason.Reason.TheVariants.{Policy as PolicyReason}
 use Rattle.bsc_accept.specs.Reasons.{reason_text}
-use Rattle.bsc_notes.specs.Notes.{denied}
+use Rattle.bsc_session.specs.Notes.Notes.{denied}
 use Rattle.bsc_lines.specs.declared.denial.Denial.TheVariants.{OfConnect, OfPair}
 use Rattle.bsc_checks.proofs.OnLiterals.{verdict_on_literals}
 use Rattle.bsc_session.specs.declared.why.Why.TheVariants.{Denied}
@@ -109,4 +110,5 @@ module _ (p : Policy) (ms : p.members.items ≡ []) where
   its_denial_is_noted = rw ms refl
 
   it_follows : PolicyIsFollowed (guarded p) (connects ∷ SaidClosed 1008 (reason_text PolicyReason) ∷ []) [] [] (journal_of a_is_turned_away) a_is_turned_away.course
-  it_follows = policy_is_followed (guarded p) (connects ∷ SaidClosed 1008 (reason_text PolicyReason) ∷ []) (0 ∷ []) [] [] (record { why = Denied 0; conn = None; taken = 0; empties = 0; turns = 1 }) a_is_turned_away
+  it_follows = policy_is_followed (guarded p) (connects ∷ SaidClosed 1008 (reason_text PolicyReason) ∷ []) (0 ∷ []) [] []
+      (record { why = Denied 0; conn = None; taken = 0; empties = 0; turns = 1 }) a_is_turned_away

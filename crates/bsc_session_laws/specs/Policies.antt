@@ -12,7 +12,7 @@ use Rattle.bsc_history.specs.declared.call.Call.TheVariants.{Connect, Forward}
 use Rattle.bsc_history.specs.declared.entry.Entry.{Entry}
 use Rattle.bsc_lines.specs.declared.denial.Denial.{Denial}
 use Rattle.bsc_lines.specs.declared.denial.Denial.TheVariants.{OfConnect, OfPair}
-use Rattle.bsc_notes.specs.Notes.{Note, denied, made}
+use Rattle.bsc_session.specs.Notes.Notes.{Note, denied, made}
 use Rattle.bsc_edge.specs.declared.said.Said.{Said}
 use Rattle.bsc_session.specs.Course.{SessionCourse, all_turns, end_of, said_closing, shares}
 use Rattle.bsc_session.specs.Guarding.{let_through, origin}

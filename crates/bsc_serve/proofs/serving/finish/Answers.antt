@@ -1,7 +1,7 @@
 use Rattle.std.proofs.Common.{ℕ, [], ◌∷◌, Option, sym, subst}
 use Rattle.bsc_desk.specs.Entries.{stop_entry}
 use Rattle.bsc_edge.specs.declared.fault.LinkFault.{LinkFault}
-use Rattle.bsc_notes.specs.Notes.{Records, made}
+use Rattle.bsc_session.specs.Notes.Notes.{Records, made}
 use Rattle.bsc_serve.proofs.serving.finish.Goals as goal
 
 pub returns-in-Ok-clause-records : goal.returns-in-Ok-clause-records

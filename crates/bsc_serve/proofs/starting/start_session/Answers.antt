@@ -16,9 +16,27 @@ use Rattle.bsc_serve.proofs.starting.start_session.Goals as goal
 pub returns-in-Err-clause-fares : goal.returns-in-Err-clause-fares
 returns-in-Err-clause-fares g c =
     let P = g.P.Spawner in
-    let stock : Stock g.row.L.Denot g.row.C.Denot g.row.N.Denot = record { jobs = P.jobs c.args.parts.now.spawner; given_back = P.ends c.args.parts.now.spawner; out = P.out c.args.parts.now.spawner; unstarted = P.faults c.args.parts.now.spawner } in
+    let stock : Stock g.row.L.Denot g.row.C.Denot g.row.N.Denot = record {
+      jobs = P.jobs c.args.parts.now.spawner;
+      given_back = P.ends c.args.parts.now.spawner;
+      out = P.out c.args.parts.now.spawner;
+      unstarted = P.faults c.args.parts.now.spawner;
+    } in
     let k = c.in-Ok.ensures in
-    let s : SplitsOff c.deref-here.result.now c.args.pass.now c.split.new.pass c.in-Ok.other = record { went = k.pass; caller = k.new; same = k.seen.0; own = k.seen.1; ended = k.seen.2; fresh = k.fresh; number = k.number.0; more = k.number.1; newer = k.newer; room = k.room; drew = k.drew } in
+    let s : SplitsOff c.deref-here.result.now c.args.pass.now c.split.new.pass c.in-Ok.other =
+    record {
+      went = k.pass;
+      caller = k.new;
+      same = k.seen.0;
+      own = k.seen.1;
+      ended = k.seen.2;
+      fresh = k.fresh;
+      number = k.number.0;
+      more = k.number.1;
+      newer = k.newer;
+      room = k.room;
+      drew = k.drew;
+    } in
     let T = g.L.Link.talk in
     let calls = g.J.Journals.calls in
     let prefix = option_map (λ p. p.now) c.args.served.prefix in
@@ -32,9 +50,27 @@ returns-in-Err-clause-fares g c =
 pub returns-in_default-2-clause-fares : goal.returns-in_default-2-clause-fares
 returns-in_default-2-clause-fares g c =
     let P = g.P.Spawner in
-    let stock : Stock g.row.L.Denot g.row.C.Denot g.row.N.Denot = record { jobs = P.jobs c.args.parts.now.spawner; given_back = P.ends c.args.parts.now.spawner; out = P.out c.args.parts.now.spawner; unstarted = P.faults c.args.parts.now.spawner } in
+    let stock : Stock g.row.L.Denot g.row.C.Denot g.row.N.Denot = record {
+      jobs = P.jobs c.args.parts.now.spawner;
+      given_back = P.ends c.args.parts.now.spawner;
+      out = P.out c.args.parts.now.spawner;
+      unstarted = P.faults c.args.parts.now.spawner;
+    } in
     let k = c.in-Ok.ensures in
-    let s : SplitsOff c.deref-here.result.now c.args.pass.now c.split.new.pass c.in-Ok.other = record { went = k.pass; caller = k.new; same = k.seen.0; own = k.seen.1; ended = k.seen.2; fresh = k.fresh; number = k.number.0; more = k.number.1; newer = k.newer; room = k.room; drew = k.drew } in
+    let s : SplitsOff c.deref-here.result.now c.args.pass.now c.split.new.pass c.in-Ok.other =
+    record {
+      went = k.pass;
+      caller = k.new;
+      same = k.seen.0;
+      own = k.seen.1;
+      ended = k.seen.2;
+      fresh = k.fresh;
+      number = k.number.0;
+      more = k.number.1;
+      newer = k.newer;
+      room = k.room;
+      drew = k.drew;
+    } in
     let b = c.take_back-in_default-2 in
     let T = g.L.Link.talk in
     let calls = g.J.Journals.calls in
@@ -52,10 +88,33 @@ returns-clause-fares g c =
     let B = g.J.Journals.begins in
     let prefix = option_map (λ p. p.now) c.args.served.prefix in
     let terms = all_terms c.args.served.terms prefix (policy_of c.args.served.policy.now) in
-    let before : Stock g.row.L.Denot g.row.C.Denot g.row.N.Denot = record { jobs = P.jobs c.args.parts.now.spawner; given_back = P.ends c.args.parts.now.spawner; out = P.out c.args.parts.now.spawner; unstarted = P.faults c.args.parts.now.spawner } in
-    let after : Stock g.row.L.Denot g.row.C.Denot g.row.N.Denot = record { jobs = P.jobs c.hand_over.new.spawner; given_back = P.ends c.hand_over.new.spawner; out = P.out c.hand_over.new.spawner; unstarted = P.faults c.hand_over.new.spawner } in
+    let before : Stock g.row.L.Denot g.row.C.Denot g.row.N.Denot = record {
+      jobs = P.jobs c.args.parts.now.spawner;
+      given_back = P.ends c.args.parts.now.spawner;
+      out = P.out c.args.parts.now.spawner;
+      unstarted = P.faults c.args.parts.now.spawner;
+    } in
+    let after : Stock g.row.L.Denot g.row.C.Denot g.row.N.Denot = record {
+      jobs = P.jobs c.hand_over.new.spawner;
+      given_back = P.ends c.hand_over.new.spawner;
+      out = P.out c.hand_over.new.spawner;
+      unstarted = P.faults c.hand_over.new.spawner;
+    } in
     let k = c.in-Ok.ensures in
-    let s : SplitsOff c.deref-here.result.now c.args.pass.now c.split.new.pass c.in-Ok.other = record { went = k.pass; caller = k.new; same = k.seen.0; own = k.seen.1; ended = k.seen.2; fresh = k.fresh; number = k.number.0; more = k.number.1; newer = k.newer; room = k.room; drew = k.drew } in
+    let s : SplitsOff c.deref-here.result.now c.args.pass.now c.split.new.pass c.in-Ok.other =
+    record {
+      went = k.pass;
+      caller = k.new;
+      same = k.seen.0;
+      own = k.seen.1;
+      ended = k.seen.2;
+      fresh = k.fresh;
+      number = k.number.0;
+      more = k.number.1;
+      newer = k.newer;
+      room = k.room;
+      drew = k.drew;
+    } in
     let n = c.new-job.ensures in
     let job = c.new-job.result in
     let begun = subst (λ i. B prefix i c.in-Ok-begin.journal) (c.number.ensures ∙ ap number_of (sym n.pass)) c.in-Ok-begin.ensures.begun in
@@ -84,7 +143,12 @@ returns-in_default-clause-fares g c =
     let B = g.J.Journals.begins in
     let T = g.L.Link.talk in
     let terms = all_terms c.args.served.terms (option_map (λ p. p.now) c.args.served.prefix) (policy_of c.args.served.policy.now) in
-    let stock : Stock g.row.L.Denot g.row.C.Denot g.row.N.Denot = record { jobs = P.jobs c.args.parts.now.spawner; given_back = P.ends c.args.parts.now.spawner; out = P.out c.args.parts.now.spawner; unstarted = P.faults c.args.parts.now.spawner } in
+    let stock : Stock g.row.L.Denot g.row.C.Denot g.row.N.Denot = record {
+      jobs = P.jobs c.args.parts.now.spawner;
+      given_back = P.ends c.args.parts.now.spawner;
+      out = P.out c.args.parts.now.spawner;
+      unstarted = P.faults c.args.parts.now.spawner;
+    } in
     let begun = g.J.Journals.calls c.args.parts.now.journals in
     let k = c.in_default.ensures in
     subst (λ (y : Hub). Fared B T y terms c.args.link (giver c.args.pass.now stock begun) (giver c.split.new.pass stock begun) false) c.deref-here.ensures

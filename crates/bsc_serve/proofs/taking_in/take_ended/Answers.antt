@@ -1,5 +1,5 @@
 use Rattle.std.proofs.Common.{List, [], ◌∷◌, None, arith, refl, subst}
-use Rattle.bsc_turn.specs.declared.view.Ended.{Ended as EndedCaller}
+use Rattle.bsc_turn.specs.declared.view.EndedCaller.{EndedCaller}
 use Rattle.bsc_turn.specs.Effects.{ended_of}
 use Rattle.bsc_turn.specs.Passes.{view_of}
 use Rattle.bsc_hub.specs.Passing.{Passed}
@@ -29,9 +29,24 @@ loop-preserved g c =
     let h = c.args.hub.now in
     let p = c.loop.pass in
     let q = c.take_in.new.pass in
-    let first : Stock g.row.L.Denot g.row.C.Denot g.row.N.Denot = record { jobs = P.jobs c.args.spawner.now; given_back = P.ends c.args.spawner.now; out = P.out c.args.spawner.now; unstarted = P.faults c.args.spawner.now } in
-    let before : Stock g.row.L.Denot g.row.C.Denot g.row.N.Denot = record { jobs = P.jobs c.loop.spawner; given_back = P.ends c.loop.spawner; out = P.out c.loop.spawner; unstarted = P.faults c.loop.spawner } in
-    let after : Stock g.row.L.Denot g.row.C.Denot g.row.N.Denot = record { jobs = P.jobs c.next_end.new.spawner; given_back = P.ends c.next_end.new.spawner; out = P.out c.next_end.new.spawner; unstarted = P.faults c.next_end.new.spawner } in
+    let first : Stock g.row.L.Denot g.row.C.Denot g.row.N.Denot = record {
+      jobs = P.jobs c.args.spawner.now;
+      given_back = P.ends c.args.spawner.now;
+      out = P.out c.args.spawner.now;
+      unstarted = P.faults c.args.spawner.now;
+    } in
+    let before : Stock g.row.L.Denot g.row.C.Denot g.row.N.Denot = record {
+      jobs = P.jobs c.loop.spawner;
+      given_back = P.ends c.loop.spawner;
+      out = P.out c.loop.spawner;
+      unstarted = P.faults c.loop.spawner;
+    } in
+    let after : Stock g.row.L.Denot g.row.C.Denot g.row.N.Denot = record {
+      jobs = P.jobs c.next_end.new.spawner;
+      given_back = P.ends c.next_end.new.spawner;
+      out = P.out c.next_end.new.spawner;
+      unstarted = P.faults c.next_end.new.spawner;
+    } in
     let left = c.in-Some-next_end.left in
     let k = c.in-Some-next_end.ensures in
     let e = k.out in
@@ -57,9 +72,24 @@ returns-in-None-next_end-clause-goes_on g c =
     let T = g.L.Link.talk in
     let h = c.args.hub.now in
     let p = c.loop.pass in
-    let first : Stock g.row.L.Denot g.row.C.Denot g.row.N.Denot = record { jobs = P.jobs c.args.spawner.now; given_back = P.ends c.args.spawner.now; out = P.out c.args.spawner.now; unstarted = P.faults c.args.spawner.now } in
-    let before : Stock g.row.L.Denot g.row.C.Denot g.row.N.Denot = record { jobs = P.jobs c.loop.spawner; given_back = P.ends c.loop.spawner; out = P.out c.loop.spawner; unstarted = P.faults c.loop.spawner } in
-    let after : Stock g.row.L.Denot g.row.C.Denot g.row.N.Denot = record { jobs = P.jobs c.next_end.new.spawner; given_back = P.ends c.next_end.new.spawner; out = P.out c.next_end.new.spawner; unstarted = P.faults c.next_end.new.spawner } in
+    let first : Stock g.row.L.Denot g.row.C.Denot g.row.N.Denot = record {
+      jobs = P.jobs c.args.spawner.now;
+      given_back = P.ends c.args.spawner.now;
+      out = P.out c.args.spawner.now;
+      unstarted = P.faults c.args.spawner.now;
+    } in
+    let before : Stock g.row.L.Denot g.row.C.Denot g.row.N.Denot = record {
+      jobs = P.jobs c.loop.spawner;
+      given_back = P.ends c.loop.spawner;
+      out = P.out c.loop.spawner;
+      unstarted = P.faults c.loop.spawner;
+    } in
+    let after : Stock g.row.L.Denot g.row.C.Denot g.row.N.Denot = record {
+      jobs = P.jobs c.next_end.new.spawner;
+      given_back = P.ends c.next_end.new.spawner;
+      out = P.out c.next_end.new.spawner;
+      unstarted = P.faults c.next_end.new.spawner;
+    } in
     let k = c.in-None-next_end.ensures in
     goes_then W B T h c.args.pass.now p p first before after c.loop.invariant.3 (goes_none W B T h p before after k.out k.jobs k.ends k.later)
 
@@ -69,9 +99,24 @@ returns-in-None-next_end-clause-takes_in g c =
     let W = Worked g.L.Link.talk g.L.Link.faults g.L.Link.notices g.C.Clock.readings g.N.Sink.held g.N.Sink.faults in
     let h = c.args.hub.now in
     let p = c.loop.pass in
-    let first : Stock g.row.L.Denot g.row.C.Denot g.row.N.Denot = record { jobs = P.jobs c.args.spawner.now; given_back = P.ends c.args.spawner.now; out = P.out c.args.spawner.now; unstarted = P.faults c.args.spawner.now } in
-    let before : Stock g.row.L.Denot g.row.C.Denot g.row.N.Denot = record { jobs = P.jobs c.loop.spawner; given_back = P.ends c.loop.spawner; out = P.out c.loop.spawner; unstarted = P.faults c.loop.spawner } in
-    let after : Stock g.row.L.Denot g.row.C.Denot g.row.N.Denot = record { jobs = P.jobs c.next_end.new.spawner; given_back = P.ends c.next_end.new.spawner; out = P.out c.next_end.new.spawner; unstarted = P.faults c.next_end.new.spawner } in
+    let first : Stock g.row.L.Denot g.row.C.Denot g.row.N.Denot = record {
+      jobs = P.jobs c.args.spawner.now;
+      given_back = P.ends c.args.spawner.now;
+      out = P.out c.args.spawner.now;
+      unstarted = P.faults c.args.spawner.now;
+    } in
+    let before : Stock g.row.L.Denot g.row.C.Denot g.row.N.Denot = record {
+      jobs = P.jobs c.loop.spawner;
+      given_back = P.ends c.loop.spawner;
+      out = P.out c.loop.spawner;
+      unstarted = P.faults c.loop.spawner;
+    } in
+    let after : Stock g.row.L.Denot g.row.C.Denot g.row.N.Denot = record {
+      jobs = P.jobs c.next_end.new.spawner;
+      given_back = P.ends c.next_end.new.spawner;
+      out = P.out c.next_end.new.spawner;
+      unstarted = P.faults c.next_end.new.spawner;
+    } in
     let k = c.in-None-next_end.ensures in
     takes_then W h c.args.pass.now p p first before after c.loop.invariant.4 (takes_none W h p before after c.loop.invariant.1 k.out k.jobs k.ends k.later)
 
@@ -79,7 +124,12 @@ pub loop-init : goal.loop-init
 loop-init g c =
     let P = g.P.Spawner in
     let W = Worked g.L.Link.talk g.L.Link.faults g.L.Link.notices g.C.Clock.readings g.N.Sink.held g.N.Sink.faults in
-    let first : Stock g.row.L.Denot g.row.C.Denot g.row.N.Denot = record { jobs = P.jobs c.args.spawner.now; given_back = P.ends c.args.spawner.now; out = P.out c.args.spawner.now; unstarted = P.faults c.args.spawner.now } in (
+    let first : Stock g.row.L.Denot g.row.C.Denot g.row.N.Denot = record {
+      jobs = P.jobs c.args.spawner.now;
+      given_back = P.ends c.args.spawner.now;
+      out = P.out c.args.spawner.now;
+      unstarted = P.faults c.args.spawner.now;
+    } in (
       (λ can. can),
       c.requires.pass,
       c.requires.ours,

@@ -9,7 +9,8 @@ returns-in-Some g c =
     let q = c.serve_guarded-ended.new in
     let b = c.args.self in
     let is = ap policy_of c.in-Some.is in
-    rw (c.of.ensures.link, c.of.ensures.clock, c.of.ensures.journal) (noted_work g.L.Link.talk g.L.Link.faults g.L.Link.notices g.C.Clock.readings g.N.Sink.held g.N.Sink.faults b _ q.link q.clock q.journal c.deref-here.result.now
+    rw (c.of.ensures.link, c.of.ensures.clock, c.of.ensures.journal)
+    (noted_work g.L.Link.talk g.L.Link.faults g.L.Link.notices g.C.Clock.readings g.N.Sink.held g.N.Sink.faults b _ q.link q.clock q.journal c.deref-here.result.now
     (Some c.deref-guard.result.now) c.deref-here.ensures (ap (λ p. Some p) c.deref-guard.ensures ∙ sym is)
     (ap (λ p. makes_lines b.is_recorded p) is) e.woken e.ends e.caused e.failed e.unrecorded e.later)
 
@@ -19,7 +20,8 @@ returns-then-is_recorded g c =
     let q = c.serve_recorded-ended.new in
     let b = c.args.self in
     let none = ap policy_of c.in_default.is in
-    rw (c.of-then-is_recorded.ensures.link, c.of-then-is_recorded.ensures.clock, c.of-then-is_recorded.ensures.journal) (noted_work g.L.Link.talk g.L.Link.faults g.L.Link.notices g.C.Clock.readings g.N.Sink.held g.N.Sink.faults b _ q.link q.clock q.journal c.deref-here.result.now
+    rw (c.of-then-is_recorded.ensures.link, c.of-then-is_recorded.ensures.clock, c.of-then-is_recorded.ensures.journal)
+    (noted_work g.L.Link.talk g.L.Link.faults g.L.Link.notices g.C.Clock.readings g.N.Sink.held g.N.Sink.faults b _ q.link q.clock q.journal c.deref-here.result.now
     None c.deref-here.ensures (sym none) (ap (λ p. makes_lines b.is_recorded p) none ∙ c.if-is_recorded.true) e.woken e.ends e.caused e.failed
     e.unrecorded e.later)
 
@@ -29,6 +31,7 @@ returns g c =
     let q = c.serve_connection-ended.new in
     let b = c.args.self in
     let none = ap policy_of c.in_default.is in
-    rw (c.of-2.ensures.link, c.of-2.ensures.clock, c.of-2.ensures.journal) (unnoted_work g.L.Link.talk g.L.Link.faults g.L.Link.notices g.C.Clock.readings g.N.Sink.held g.N.Sink.faults b _ q.link q.clock b.journal c.deref-here.result.now
+    rw (c.of-2.ensures.link, c.of-2.ensures.clock, c.of-2.ensures.journal)
+    (unnoted_work g.L.Link.talk g.L.Link.faults g.L.Link.notices g.C.Clock.readings g.N.Sink.held g.N.Sink.faults b _ q.link q.clock b.journal c.deref-here.result.now
     None c.deref-here.ensures (sym none) (ap (λ p. makes_lines b.is_recorded p) none ∙ c.if-is_recorded.false) e.woken refl e.ends e.caused e.failed
     e.recorded e.later)

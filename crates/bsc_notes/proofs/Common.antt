@@ -1,8 +1,0 @@
--- Lemmas that crates above cite too.
-use Rattle.std.proofs.Common.{List, [], ◌∷◌, None}
-use Rattle.bsc_notes.specs.Notes.{HasLine, Note}
-
--- no lost line needs no note
-pub no_line : (ns : List Note) → HasLine ns None
-no_line [] = tt
-no_line (n ∷ ns) = tt

@@ -1,3 +1,0 @@
-mod Callers
-mod Below
-pub mod Common
