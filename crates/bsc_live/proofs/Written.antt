@@ -1,5 +1,7 @@
 -- What has left and what is held, as octets leave.
-use Rattle.std.proofs.Common.{◌≡◌, ◌∙◌, ◌+◌, ◌≤◌, ◌⊎◌, ℕ, List, [], ◌++◌, take, drop, length, Option, Some, None, Result, Ok, Err, IsErr, inl, inr, refl, sym, subst, ap, append-nil, take-append-drop, take_all, le_refl}
+-- It serves the clauses of `put_from`.
+use Rattle.std.proofs.Common.{◌≡◌, ◌∙◌, ◌+◌, ◌≤◌, ◌⊎◌, ℕ, List, [], ◌++◌, take, drop, length, Option, Some, None, Result, Ok, Err, IsErr, inl, inr, refl, sym, subst, ap}
+use Rattle.std.proofs.Common.{append-nil, take-append-drop, take_all, le_refl}
 use Rattle.std.proofs.KnownBytes.{Appends-nil, Keeps-refl, Keeps-trans, append_known-grown, append_known-kept, append_known-moved, append_known-passed}
 use Rattle.std.proofs.lemmas.List.{drop-append-le, drop-drop}
 use Rattle.std.specs.Io.KnownBytes.{Appends, Keeps, WriteAppends, append_known}

@@ -25,14 +25,14 @@ pub(crate) struct Held<T: Wire + Drop> {
     pub(crate) wire: T,
     /// Whether it holds what is written.
     holds: bool,
-    kept: Kept,
+    kept: WriteBuffer,
     /// What was held couldn't leave.
     is_broken: bool,
 }
 
 /// What was written and is kept.
 #[derive(Drop)]
-pub(crate) struct Kept {
+pub(crate) struct WriteBuffer {
     pub(crate) held: Vec<u8>,
     /// How many octets of these have left.
     pub(crate) gone: usize,
@@ -84,7 +84,7 @@ impl<T: Wire + Drop> Held<T> {
             alloc,
             wire,
             holds: false,
-            kept: Kept {
+            kept: WriteBuffer {
                 held: Vec::new(alloc),
                 gone: 0,
             },

@@ -3,15 +3,15 @@ ghost use Rattle.std.specs.Prelude.{◌≡◌, Some};
 ghost use Rattle.std.specs.Io.{WritesAtMost};
 ghost use Rattle.std.specs.Io.KnownBytes.{WriteAppends};
 
-use crate::bell::Bell;
-use crate::debts::Debts;
+use crate::deferred_wakes::DeferredWakes;
 use crate::lingering::Lingering;
 use crate::moment::{Moment, wait_of};
 use crate::raw::RawSocket;
+use crate::waker::Waker;
 use crate::watch::{Seat, Watch};
 use crate::wire::Wire;
 use mio::net::TcpStream;
-use mio::{Events, Interest, Poll, Token, Waker};
+use mio::{Events, Interest, Poll, Token};
 use std::alloc::Global;
 use std::io::{self, ErrorKind};
 use std::net::Net;
@@ -35,7 +35,7 @@ pub(crate) struct LiveSocket<R: Clock + Wait + Drop> {
     raw: RawSocket,
     poll: Poll,
     events: Events,
-    bell: Arc<Bell>,
+    bell: Arc<Waker>,
     /// When the reads are over, once one had to know.
     until: Option<Moment>,
     /// The socket had no more at the last read of it, and the poll will tell when it has.
@@ -50,7 +50,7 @@ pub(crate) struct LiveSocket<R: Clock + Wait + Drop> {
     /// When the octets that were written since the last flush must have left, once one of them had to wait.
     write_until: Option<Moment>,
     /// Where the rings are noted that its link owes, if it may owe any.
-    debts: Option<Arc<Debts>>,
+    debts: Option<Arc<DeferredWakes>>,
     /// Where it is waited for with others.
     seat: Option<Seat>,
     /// Where its socket lingers once it is dropped.
@@ -59,7 +59,7 @@ pub(crate) struct LiveSocket<R: Clock + Wait + Drop> {
 
 /// What a poll told of the socket.
 #[derive(Clone, Copy)]
-struct Told {
+struct PollReport {
     /// It may have octets, or its end.
     more: bool,
     /// The poll told of nothing at all.
@@ -69,8 +69,8 @@ struct Told {
 }
 
 /// What the events of a poll tell of the socket.
-fn told_by(events: &Events) -> Told {
-    let mut told = Told {
+fn told_by(events: &Events) -> PollReport {
+    let mut told = PollReport {
         more: false,
         nothing: events.is_empty(),
         end: false,
@@ -95,13 +95,13 @@ impl<R: Clock + Net + Wait + Copy + Drop> LiveSocket<R> {
         let mut socket = socket;
         socket.set_nodelay(true)?;
         let poll = Poll::new(&rt)?;
-        let waker = Waker::new(poll.registry(), BELL)?;
+        let waker = mio::Waker::new(poll.registry(), BELL)?;
         poll.registry()
             .register(&mut socket, SOCKET, Interest::READABLE)?;
         let Ok(events) = Events::with_capacity(alloc, 4) else {
             return Err(io::Error::from(ErrorKind::OutOfMemory));
         };
-        let Ok(bell) = Arc::new(alloc, Bell::new(waker)) else {
+        let Ok(bell) = Arc::new(alloc, Waker::new(waker)) else {
             return Err(io::Error::from(ErrorKind::OutOfMemory));
         };
         Ok(LiveSocket {
@@ -145,7 +145,7 @@ impl<R: Clock + Wait + Drop> LiveSocket<R> {
     }
 
     /// Has it make the rings that are noted here.
-    pub(crate) fn ring(&mut self, debts: &Arc<Debts>) -> io::Result<()>
+    pub(crate) fn ring(&mut self, debts: &Arc<DeferredWakes>) -> io::Result<()>
         ensures { self.new.raw.left.items ≡ self.old.raw.left.items }
     {
         let Ok(debts) = Arc::try_clone(debts) else {
@@ -156,7 +156,7 @@ impl<R: Clock + Wait + Drop> LiveSocket<R> {
     }
 
     /// Its bell, to be shared.
-    pub(crate) fn bell(&self) -> io::Result<Arc<Bell>> {
+    pub(crate) fn bell(&self) -> io::Result<Arc<Waker>> {
         match Arc::try_clone(&self.bell) {
             Ok(bell) => Ok(bell),
             Err(_) => Err(io::Error::from(ErrorKind::OutOfMemory)),

@@ -1,11 +1,11 @@
 //! Streams over sockets that don't block.
 ghost use Rattle.bsc_live.specs.Written.{written};
 
-use crate::bell::Bell;
-use crate::debts::Debts;
+use crate::deferred_wakes::DeferredWakes;
 use crate::held::Held;
 use crate::lingering::Lingering;
 use crate::socket::LiveSocket;
+use crate::waker::Waker;
 use crate::watch::Watch;
 use crate::wire::Wire;
 use mio::net::TcpStream;
@@ -69,14 +69,14 @@ impl<R: Clock + Wait + Drop> LiveStream<R> {
     }
 
     /// The same stream, which makes the rings that are noted here.
-    pub fn ringing(self, debts: &Arc<Debts>) -> io::Result<LiveStream<R>> {
+    pub fn ringing(self, debts: &Arc<DeferredWakes>) -> io::Result<LiveStream<R>> {
         let mut stream = self;
         stream.held.wire.ring(debts)?;
         Ok(stream)
     }
 
     /// The stream's bell, to be shared.
-    pub fn bell(&self) -> io::Result<Arc<Bell>> {
+    pub fn bell(&self) -> io::Result<Arc<Waker>> {
         self.held.wire.bell()
     }
 }

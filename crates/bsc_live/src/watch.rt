@@ -2,8 +2,12 @@
 //!
 //! Who has a seat at a `Watch` is hot or cold. An event makes it hot, and so does a read that gave octets; a read that would
 //! have blocked makes it cold. While somebody is hot a wait takes no time: more may be there of which no event tells.
+ghost use Rattle.std.specs.Prelude.{◌<◌, length, IfSome};
+ghost use Rattle.std.specs.Arc.{arc_value};
+
 use crate::lingering::{LOOK_MS, Lingering};
 use crate::moment::wait_of;
+use crate::seat_waker::SeatWaker;
 use bsc_edge::Waiter;
 use mio::event::Source;
 use mio::{Events, Interest, Poll, Registry, Token};
@@ -38,11 +42,14 @@ pub struct Watch {
 pub struct Seat {
     watch: Arc<Watch>,
     place: usize,
+    ghost sits: { place < length (arc_value watch).places.items },
 }
 
 impl Watch {
     /// Takes a place, if one is free.
-    fn take_place(&self) -> Option<usize> {
+    fn take_place(&self) -> Option<usize>
+        ensures { IfSome result (λ number. number < length self.now.places.items) }
+    {
         for (number, place) in self.places.iter().enumerate() {
             if !place.taken.swap(true, Ordering::SeqCst) {
                 return Some(number);
@@ -90,8 +97,8 @@ impl Watch {
 }
 
 impl Seat {
-    /// A seat for whom this source belongs to. Fails where all places are taken.
-    pub fn take<S: Source>(watch: &Arc<Watch>, source: &mut S) -> io::Result<Seat> {
+    /// A seat at a place that was free. Fails where all are taken.
+    fn at(watch: &Arc<Watch>) -> io::Result<Seat> {
         let Ok(watch) = Arc::try_clone(watch) else {
             return Err(io::Error::from(ErrorKind::OutOfMemory));
         };
@@ -99,11 +106,23 @@ impl Seat {
             return Err(io::Error::from(ErrorKind::OutOfMemory));
         };
         watch.set_hot(place, true);
-        let seat = Seat { watch, place };
+        Ok(Seat { watch, place })
+    }
+
+    /// A seat for whom this source belongs to. Fails where all places are taken.
+    pub fn take<S: Source>(watch: &Arc<Watch>, source: &mut S) -> io::Result<Seat> {
+        let seat = Seat::at(watch)?;
         seat.watch
             .registry
-            .register(source, Token(place), Interest::READABLE)?;
+            .register(source, Token(seat.place), Interest::READABLE)?;
         Ok(seat)
+    }
+
+    /// A seat without a source, and what makes it hot from another thread. Fails where all places are taken.
+    pub fn with_waker(watch: &Arc<Watch>) -> io::Result<(Seat, SeatWaker)> {
+        let seat = Seat::at(watch)?;
+        let waker = SeatWaker::at(&seat.watch.registry, seat.place)?;
+        Ok((seat, waker))
     }
 
     /// Leaves, and its watch is told no more of this source.

@@ -1,4 +1,5 @@
 -- To which port an acceptor is bound.
+-- It serves the clauses of `live_made` and `run_made`.
 use Rattle.std.proofs.Common.{ℕ, Option, Some, None, ◌∙◌}
 use Rattle.bsc_edge.specs.Told.{Stays, ToldIs}
 use Rattle.bsc_edge.proofs.Common.{stays_then}

@@ -1,4 +1,5 @@
 -- A run of a node's code is a run of the definition of a node, and its node ends only once the `finish` of its script came.
+-- It serves clauses of functions of `command`, `living` and `playing`.
 use Rattle.std.proofs.Common.{◌≡◌, ℕ, Bool, List, [], ◌++◌, map, Option, is_some, Result, Ok, Err, IfErr, IfOk, OnErr, refl, subst}
 use Rattle.std.specs.Prelude.{IsTrue}
 use Rattle.bsc_edge.specs.declared.said.Said.{Said}
@@ -46,7 +47,8 @@ drawing_steps drawn a n m L now e actions stands may goes = goes.0 a L stands ma
 -- and so does a log
 log_steps : (a : Made) (n m L : Log) (now : ℕ) (e : NodeEvent) (actions : List Action) → n ≡ L → IsTrue (may_come L (record { now = now; event = e })) → GoesAsDefined a n now e actions m
     → (actions ≡ actions_at a L (record { now = now; event = e })) × (m ≡ L ++ goes_on a (record { now = now; event = e }) L)
-log_steps a n m L now e actions is may goes = subst (λ (K : Log). (actions ≡ actions_at a K (record { now = now; event = e })) × (m ≡ K ++ goes_on a (record { now = now; event = e }) K)) is (goes.1, goes.2)
+log_steps a n m L now e actions is may goes = subst (λ (K : Log). (actions ≡ actions_at a K (record { now = now; event = e })) × (m ≡ K ++ goes_on a (record { now = now; event = e }) K)) is
+    (goes.1, goes.2)
 
 -- ---- the words that a node draws, beside its log
 
@@ -64,7 +66,8 @@ module _ {L W : Type 0} (talk : L → Option (List Said)) (drawn : NodeEvent →
       (c c' : Dialling L) (l l' : Admitting L) (t t' : Option (List ℕ)) (b b' : Option (List ℕ))
       → script_of script ≡ Ok (map wish_of lines) → NodeStands first.node (made_by v) []
       → IfOk end (λ e. Run (GoesDrawing AnswersAt drawn) talk (is_some v.direct_port) e v.turns lines (run_moment (at_rest first u) c b l t) (run_moment (at_rest last u') c' b' l' t'))
-      → (M : Log) × IfOk end (λ e. Run (GoesDrawing (GoesAsDefined (made_by v)) drawn) talk (is_some v.direct_port) e v.turns lines (run_moment (at_rest [] u) c b l t) (run_moment (at_rest M u') c' b' l' t'))
+      → (M : Log) × IfOk end (λ e. Run (GoesDrawing (GoesAsDefined (made_by v)) drawn) talk (is_some v.direct_port) e v.turns lines (run_moment (at_rest [] u) c b l t)
+      (run_moment (at_rest M u') c' b' l' t'))
   by_definition v script lines first last u u' (Ok end) c c' l l' t t' b b' reads made run =
       let two = lifted (GoesDrawing AnswersAt drawn) (made_by v) (λ n (M : Log). NodeStands n.node.node (made_by v) M) (drawing_steps drawn (made_by v))
       talk (is_some v.direct_port) end v.turns lines (asked_of script lines reads) (at_rest first u) (at_rest last u') c c' b b' l l' t t' made run in (
@@ -100,7 +103,8 @@ module _ {L W : Type 0} (talk : L → Option (List Said)) (drawn : NodeEvent →
       talk (is_some v.direct_port) lines (asked_of script lines reads) (at_rest first u) c b l t t' r r' made rests)
 
   -- whatever words it draws
-  alone_of : (a : Made) (listens : Bool) (end : RunEnd) (turns : ℕ) (lines : List Due) (u u' : W) (last : Log) (c c' : Dialling L) (l l' : Admitting L) (t t' : Option (List ℕ)) (b b' : Option (List ℕ))
+  alone_of : (a : Made) (listens : Bool) (end : RunEnd) (turns : ℕ) (lines : List Due) (u u' : W) (last : Log) (c c' : Dialling L) (l l' : Admitting L) (t t' : Option (List ℕ))
+      (b b' : Option (List ℕ))
       → Run (GoesDrawing (GoesAsDefined a) drawn) talk listens end turns lines (run_moment (at_rest [] u) c b l t) (run_moment (at_rest last u') c' b' l' t')
       → Run (GoesAsDefined a) talk listens end turns lines (run_moment [] c b l t) (run_moment last c' b' l' t')
   alone_of a listens end turns lines u u' last c c' l l' t t' b b' run =
@@ -119,7 +123,8 @@ module _ {L W : Type 0} (talk : L → Option (List Said)) (drawn : NodeEvent →
   said_of v lines u u' last (Err halt) c c' l l' t t' b b' run = tt
 
   -- where no link came, the log is that of a node alone
-  pub lonely_of : (v : NodeSettings) (script : List ℕ) (lines : List Due) (u u' : W) (last : Log) (end : Result RunEnd Halt) (c c' : Dialling L) (l l' : Admitting L) (t t' : Option (List ℕ)) (b b' : Option (List ℕ))
+  pub lonely_of : (v : NodeSettings) (script : List ℕ) (lines : List Due) (u u' : W) (last : Log) (end : Result RunEnd Halt) (c c' : Dialling L) (l l' : Admitting L) (t t' : Option (List ℕ))
+      (b b' : Option (List ℕ))
       → script_of script ≡ Ok (map wish_of lines)
       → IfOk end (λ e. Run (GoesDrawing (GoesAsDefined (made_by v)) drawn) talk (is_some v.direct_port) e v.turns lines (run_moment (at_rest [] u) c b l t) (run_moment (at_rest last u') c' b' l' t'))
       → IfOk end (λ e. NoLinkCame c.calls c'.calls l.left l'.left → (times : List ℕ) × Grows t t' times × (last ≡ alone (made_by v) lines times))
@@ -129,7 +134,8 @@ module _ {L W : Type 0} (talk : L → Option (List Said)) (drawn : NodeEvent →
   lonely_of v script lines u u' last (Err halt) c c' l l' t t' b b' reads run = tt
 
   -- a run of the definition in which the node told that it has ended came to the time of its `finish`
-  pub finish_came : (a : Made) (script : List ℕ) (listens : Bool) (turns : ℕ) (lines : List Due) (u u' : W) (last : Log) (c c' : Dialling L) (l l' : Admitting L) (t t' : Option (List ℕ)) (b b' : Option (List ℕ))
+  pub finish_came : (a : Made) (script : List ℕ) (listens : Bool) (turns : ℕ) (lines : List Due) (u u' : W) (last : Log) (c c' : Dialling L) (l l' : Admitting L) (t t' : Option (List ℕ))
+      (b b' : Option (List ℕ))
       → script_of script ≡ Ok (map wish_of lines)
       → Run (GoesDrawing (GoesAsDefined a) drawn) talk listens Finished turns lines (run_moment (at_rest [] u) c b l t) (run_moment (at_rest last u') c' b' l' t') → FinishCame lines t t'
   finish_came a script listens turns lines u u' last c c' l l' t t' b b' reads run =

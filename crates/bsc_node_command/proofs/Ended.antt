@@ -1,4 +1,5 @@
 -- Status 0 comes only once the `finish` of the script came.
+-- It serves clauses of functions of `command`, `living` and `playing`.
 use Rattle.std.proofs.Common.{◌≡◌, ◌<◌, inl, inr, ℕ, List, [], map, Option, is_some, Result, Ok, Err, IfOk, arith}
 use Rattle.bsc_edge.specs.declared.said.Said.{Said}
 use Rattle.bsc_player.specs.LastLines.{EndsWith, SaysOrRunsOut}
@@ -22,7 +23,7 @@ use Rattle.bsc_node_command.specs.Comes.{made_by, CommandWorld, Comes, NodeWorld
 use Rattle.bsc_node_command.proofs.Defined.{finish_came}
 
 -- a last line comes with no status 0
-line_fails : (wanted s : ℕ) (b b' : Option (List ℕ)) (line : List ℕ) → 0 < wanted → EndsWith s wanted b b' line → s ≡ 0 → ⊥
+pub line_fails : (wanted s : ℕ) (b b' : Option (List ℕ)) (line : List ℕ) → 0 < wanted → EndsWith s wanted b b' line → s ≡ 0 → ⊥
 line_fails wanted s b b' line some (inl k) is = omega (arith, some, k.0, is)
 line_fails wanted s b b' line some (inr k) is = omega (arith, k.0, is)
 
@@ -46,17 +47,21 @@ unsettled_fails holds r r' s b b' (inl k) is = unread_fails r r' s b b' k is
 unsettled_fails holds r r' s b b' (inr k) is = said_fails 5 s b b' _ (omega arith) k.4 is
 
 module _ {L W : Type 0} (talk : L → Option (List Said)) (drawn : NodeEvent → W → W → Type 0) where
-  over_of : (v : NodeSettings) (script : List ℕ) (lines : List Due) (u u' : W) (last : Log) (end : Result RunEnd Halt) (c c' : Dialling L) (l l' : Admitting L) (t t' : Option (List ℕ)) (s : ℕ) (b b' b'' : Option (List ℕ))
-      → script_of script ≡ Ok (map wish_of lines) → IfOk end (λ e. Run (GoesDrawing (GoesAsDefined (made_by v)) drawn) talk (is_some v.direct_port) e v.turns lines (run_moment (at_rest [] u) c b l t) (run_moment (at_rest last u') c' b' l' t')) → SaysEnd end s b' b'' → s ≡ 0
+  over_of : (v : NodeSettings) (script : List ℕ) (lines : List Due) (u u' : W) (last : Log) (end : Result RunEnd Halt) (c c' : Dialling L) (l l' : Admitting L) (t t' : Option (List ℕ))
+      (s : ℕ) (b b' b'' : Option (List ℕ))
+      → script_of script ≡ Ok (map wish_of lines) → IfOk end (λ e. Run (GoesDrawing (GoesAsDefined (made_by v)) drawn) talk (is_some v.direct_port) e v.turns lines
+      (run_moment (at_rest [] u) c b l t) (run_moment (at_rest last u') c' b' l' t')) → SaysEnd end s b' b'' → s ≡ 0
       → FinishCame lines t t'
-  over_of v script lines u u' last (Ok Finished) c c' l l' t t' s b b' b'' reads run h is = finish_came talk drawn (made_by v) script (is_some v.direct_port) v.turns lines u u' last c c' l l' t t' b b' reads run
+  over_of v script lines u u' last (Ok Finished) c c' l l' t t' s b b' b'' reads run h is =
+      finish_came talk drawn (made_by v) script (is_some v.direct_port) v.turns lines u u' last c c' l l' t t' b b' reads run
   over_of v script lines u u' last (Ok Spent) c c' l l' t t' s b b' b'' reads run h is = absurd (line_fails 8 s b' b'' _ (omega arith) h is)
   over_of v script lines u u' last (Err WriteFault) c c' l l' t t' s b b' b'' reads run h is = absurd (omega (arith, h.0, is))
   over_of v script lines u u' last (Err AcceptFault) c c' l l' t t' s b b' b'' reads run h is = absurd (line_fails 6 s b' b'' _ (omega arith) h is)
   over_of v script lines u u' last (Err NoMemory) c c' l l' t t' s b b' b'' reads run h is = absurd (omega (arith, h.0, is))
 
   pub finished_so : (v : NodeSettings) (script : List ℕ) (before after : NodeWorld L W) (s : ℕ)
-      → Comes talk drawn (record { settings = v; script = script }) before after s → s ≡ 0 → (lines : List Due) × (script_of script ≡ Ok (map wish_of lines)) × FinishCame lines before.readings after.readings
+      → Comes talk drawn (record { settings = v; script = script }) before after s → s ≡ 0 → (lines : List Due) × (script_of script ≡ Ok (map wish_of lines))
+      × FinishCame lines before.readings after.readings
   finished_so v script before after s (inl k) is = absurd (none_fails v script before after s k.1 is)
   finished_so v script before after s (inr r) is = (
     r.lines,
@@ -66,13 +71,15 @@ module _ {L W : Type 0} (talk : L → Option (List Said)) (drawn : NodeEvent →
   )
 
   script_finished : (v : NodeSettings) (holds : List ℕ → Type 0) (before after : CommandWorld L W) (s : ℕ)
-      → RunsScript talk drawn v holds before after s → s ≡ 0 → (script : List ℕ) × holds script × (lines : List Due) × (script_of script ≡ Ok (map wish_of lines)) × FinishCame lines before.beside.readings after.beside.readings
+      → RunsScript talk drawn v holds before after s → s ≡ 0 → (script : List ℕ) × holds script × (lines : List Due) × (script_of script ≡ Ok (map wish_of lines))
+      × FinishCame lines before.beside.readings after.beside.readings
   script_finished v holds before after s (inl k) is = absurd (unread_fails before.unread after.unread s before.beside.written after.beside.written k.1 is)
   script_finished v holds before after s (inr k) is =
       let three = finished_so v k.0 before.beside after.beside s k.2 is in
       (k.0, k.1, three.0, three.1, three.2)
 
   pub files_finished : (settled scripted : List ℕ → Type 0) (before after : CommandWorld L W) (s : ℕ)
-      → RunsFiles talk drawn (record { settings = settled; script = scripted }) before after s → s ≡ 0 → (script : List ℕ) × scripted script × (lines : List Due) × (script_of script ≡ Ok (map wish_of lines)) × FinishCame lines before.beside.readings after.beside.readings
+      → RunsFiles talk drawn (record { settings = settled; script = scripted }) before after s → s ≡ 0 → (script : List ℕ) × scripted script × (lines : List Due)
+      × (script_of script ≡ Ok (map wish_of lines)) × FinishCame lines before.beside.readings after.beside.readings
   files_finished settled scripted before after s (inl k) is = absurd (unsettled_fails settled before.unread after.unread s before.beside.written after.beside.written k.1 is)
   files_finished settled scripted before after s (inr k) is = script_finished k.0 scripted before after s k.2 is

@@ -1,4 +1,5 @@
 -- What holds from an earlier state on.
+-- It serves the clauses of `run_node_files` and `test_node`.
 use Rattle.std.proofs.Common.{◌≡◌, ◌≤◌, ℕ, List, Option, inl, inr, arith}
 use Rattle.std.specs.Prelude.{◌⊎◌}
 use Rattle.bsc_edge.specs.declared.said.Said.{Said}
@@ -6,6 +7,7 @@ use Rattle.bsc_settings.specs.declared.node.NodeSettings.{NodeSettings}
 use Rattle.bsc_node.specs.declared.node_event.NodeEvent.{NodeEvent}
 use Rattle.bsc_node_command.specs.Settled.{IsSettled, Unread}
 use Rattle.bsc_node_command.specs.Comes.{CommandWorld, NodeWorld, RunsScript}
+use Rattle.bsc_node_command.specs.Tested.{TestWorld, TestsScript}
 use Rattle.bsc_outside.proofs.Common.{risen_from}
 
 pub unread_from : (f g h s : ℕ) (b b' : Option (List ℕ)) → f ≤ g → Unread g h s b b' → Unread f h s b b'
@@ -26,6 +28,17 @@ module _ {L W : Type 0} (talk : L → Option (List Said)) (drawn : NodeEvent →
       → ((o : List ℕ) → holds o → more o) → RunsScript talk drawn v holds before after s → RunsScript talk drawn v more before after s
   script_of_more v holds more before after s stays (inl x) = inl x
   script_of_more v holds more before after s stays (inr x) = inr (x.0, stays x.0 x.1, x.2)
+
+-- the same of a script that was tried
+pub tests_from : (v : NodeSettings) (holds : List ℕ → Type 0) (first : ℕ) (before after : TestWorld) (s : ℕ)
+    → first ≤ before.unread → TestsScript v holds before after s → TestsScript v holds (record before { unread = first }) after s
+tests_from v holds first before after s le (inl x) = inl (unread_from first before.unread after.unread s before.written after.written le x)
+tests_from v holds first before after s le (inr x) = inr x
+
+pub tests_more : (v : NodeSettings) (holds more : List ℕ → Type 0) (before after : TestWorld) (s : ℕ)
+    → ((o : List ℕ) → holds o → more o) → TestsScript v holds before after s → TestsScript v more before after s
+tests_more v holds more before after s stays (inl x) = inl x
+tests_more v holds more before after s stays (inr x) = inr (x.0, stays x.0 x.1, x.2)
 
 -- what a file gave, it gave where more was read since
 pub settled_more : (v : NodeSettings) (holds more : List ℕ → Type 0) → ((o : List ℕ) → holds o → more o) → IsSettled holds v → IsSettled more v

@@ -4,3 +4,4 @@ mod Defined
 mod Statuses
 mod Ended
 mod Ran
+mod Lives

@@ -1,4 +1,5 @@
 -- The links of a node that was run were used as its log says, and tell that.
+-- It serves clauses of functions of `laws`.
 use Rattle.std.proofs.Common.{List, [], Option, is_some, Result, Ok, Err, IfErr, IfOk}
 use Rattle.bsc_edge.specs.declared.said.Said.{Said}
 use Rattle.bsc_node.specs.declared.node_event.NodeEvent.{NodeEvent}

@@ -1,4 +1,5 @@
 -- What a status says of a run.
+-- It serves the clauses of `run_node`.
 use Rattle.std.proofs.Common.{◌≡◌, ◌⊎◌, inl, inr, ⊎_elim, ℕ, List, [], map, length, Option, is_some, Result, Ok, Err, IfOk, sym, ◌∙◌, arith}
 use Rattle.bsc_edge.specs.declared.said.Said.{Said}
 use Rattle.bsc_edge.specs.Told.{Grows}
@@ -48,23 +49,29 @@ module _ {L W : Type 0} where
   none_spent v script before after s (inr (inr k)) is = omega (arith, k.1.0, is)
 
 module _ {L W : Type 0} (talk : L → Option (List Said)) (drawn : NodeEvent → W → W → Type 0) where
-  pub bad_line : (v : NodeSettings) (script : List ℕ) (before after : NodeWorld L W) (s : ℕ) → Comes talk drawn (record { settings = v; script = script }) before after s → s ≡ 2 → (n : ℕ) × (script_of script ≡ Err n)
+  pub bad_line : (v : NodeSettings) (script : List ℕ) (before after : NodeWorld L W) (s : ℕ) → Comes talk drawn (record { settings = v; script = script }) before after s → s ≡ 2 → (n : ℕ)
+      × (script_of script ≡ Err n)
   bad_line v script before after s (inl k) is = none_bad v script before after s k.1 is
   bad_line v script before after s (inr r) is = absurd (not_bad r.end s r.written after.written r.says is)
 
-  pub refused_so : (v : NodeSettings) (script : List ℕ) (before after : NodeWorld L W) (s : ℕ) → Comes talk drawn (record { settings = v; script = script }) before after s → (n : ℕ) → script_of script ≡ Err n → (s ≡ 2) ⊎ (s ≡ 4) ⊎ (s ≡ 7)
+  pub refused_so : (v : NodeSettings) (script : List ℕ) (before after : NodeWorld L W) (s : ℕ) → Comes talk drawn (record { settings = v; script = script }) before after s → (n : ℕ)
+      → script_of script ≡ Err n → (s ≡ 2) ⊎ (s ≡ 4) ⊎ (s ≡ 7)
   refused_so v script before after s (inl k) n bad = none_refused v script before after s k.1 n bad
   refused_so v script before after s (inr r) n bad = absurd (good_or_bad (script_of script) (map wish_of r.lines) n r.reads bad)
 
-  spent_turns : (v : NodeSettings) (lines : List Due) (u u' : W) (last : Log) (end : Result RunEnd Halt) (c c' : Dialling L) (l l' : Admitting L) (t t' : Option (List ℕ)) (s : ℕ) (b b' b'' : Option (List ℕ))
-      → IfOk end (λ e. Run (GoesDrawing (GoesAsDefined (made_by v)) drawn) talk (is_some v.direct_port) e v.turns lines (run_moment (at_rest [] u) c b l t) (run_moment (at_rest last u') c' b' l' t')) → SaysEnd end s b' b'' → s ≡ 8 → (times : List ℕ) × Grows t t' times × (length times ≡ v.turns)
+  spent_turns : (v : NodeSettings) (lines : List Due) (u u' : W) (last : Log) (end : Result RunEnd Halt) (c c' : Dialling L) (l l' : Admitting L) (t t' : Option (List ℕ)) (s : ℕ)
+      (b b' b'' : Option (List ℕ))
+      → IfOk end (λ e. Run (GoesDrawing (GoesAsDefined (made_by v)) drawn) talk (is_some v.direct_port) e v.turns lines (run_moment (at_rest [] u) c b l t)
+      (run_moment (at_rest last u') c' b' l' t')) → SaysEnd end s b' b'' → s ≡ 8 → (times : List ℕ) × Grows t t' times × (length times ≡ v.turns)
   spent_turns v lines u u' last (Ok Finished) c c' l l' t t' s b b' b'' run h is = absurd (omega (arith, h.0, is))
   spent_turns v lines u u' last (Ok Spent) c c' l l' t t' s b b' b'' run h is = (run.times, run.readings, run.ends.0)
   spent_turns v lines u u' last (Err WriteFault) c c' l l' t t' s b b' b'' run h is = absurd (omega (arith, h.0, is))
   spent_turns v lines u u' last (Err AcceptFault) c c' l l' t t' s b b' b'' run h is = absurd (⊎_elim (λ k. omega (arith, k.0, is)) (λ k. omega (arith, k.0, is)) h)
   spent_turns v lines u u' last (Err NoMemory) c c' l l' t t' s b b' b'' run h is = absurd (omega (arith, h.0, is))
 
-  pub spent_so : (v : NodeSettings) (script : List ℕ) (before after : NodeWorld L W) (s : ℕ) → Comes talk drawn (record { settings = v; script = script }) before after s → s ≡ 8 → (times : List ℕ) × Grows before.readings after.readings times × (length times ≡ v.turns)
+  pub spent_so : (v : NodeSettings) (script : List ℕ) (before after : NodeWorld L W) (s : ℕ) → Comes talk drawn (record { settings = v; script = script }) before after s → s ≡ 8
+      → (times : List ℕ) × Grows before.readings after.readings times × (length times ≡ v.turns)
   spent_so v script before after s (inl k) is = absurd (none_spent v script before after s k.1 is)
-  spent_so v script before after s (inr r) is = spent_turns v r.lines before.random after.random r.last r.end before.dialled after.dialled r.door after.door before.readings after.readings s before.written r.written
+  spent_so v script before after s (inr r) is =
+      spent_turns v r.lines before.random after.random r.last r.end before.dialled after.dialled r.door after.door before.readings after.readings s before.written r.written
       after.written r.run r.says is

@@ -27,7 +27,8 @@ StoppedNodesUseLinks {L} {W} talk drawn = (asked : NodeAsked) (before after : No
 abbrev pub StoppedNodesTell : {L W : Type 0} → (L → Option (List Said)) → (NodeEvent → W → W → Type 0) → Type 0
 StoppedNodesTell {L} {W} talk drawn = (asked : NodeAsked) (before after : NodeWorld L W) (s : ℕ) (x : NodeRan talk drawn asked before after s)
     → CameFresh talk after.dialled.came → CameFresh talk after.door.came
-    → IfErr x.end (λ halt. (M : Log) × (r : HasStopped talk (made_by asked.settings) x.lines (outside_of before x.door before.written) (outside_of after after.door x.written) M) × EachTells talk M r.links.links)
+    → IfErr x.end (λ halt. (M : Log) × (r : HasStopped talk (made_by asked.settings) x.lines (outside_of before x.door before.written) (outside_of after after.door x.written) M)
+    × EachTells talk M r.links.links)
 
 -- Where it came to its end, and each link that came from dialer and acceptor had told nothing when it came, what each tells at last is
 -- what that log says of it.

@@ -14,7 +14,7 @@ ghost use Rattle.bsc_node_command.specs.Lines.{settings_line};
 ghost use Rattle.bsc_node_command.specs.Settled.{IsSettled, Unread, Unsettled};
 ghost use Rattle.bsc_node_command.specs.Comes.{RunsFiles, RunsScript, acceptor_world, node_world};
 
-use crate::here::Here;
+use crate::node_context::NodeContext;
 use crate::playing::run_node;
 use crate::texts::settings_text;
 use crate::words::NodeWords;
@@ -51,7 +51,7 @@ fn read_file<F: Files>(alloc: Global, files: &mut F, path: &str) -> Result<Octet
 }
 
 /// The octets of a file, or the status of a run that ends without them.
-fn load<K: Sink, F: Files>(
+pub(crate) fn load<K: Sink, F: Files>(
     alloc: Global,
     path: &str,
     files: &mut F,
@@ -74,7 +74,7 @@ fn load<K: Sink, F: Files>(
 }
 
 /// The settings of a node, or the status of a run that ends without them.
-fn load_settings<K: Sink, F: Files>(
+pub(crate) fn load_settings<K: Sink, F: Files>(
     alloc: Global,
     path: &str,
     files: &mut F,
@@ -125,7 +125,7 @@ fn run_script<
     A: Acceptor<L>,
     D: Dialer<L>,
 >(
-    here: Here<'_>,
+    here: NodeContext<'_>,
     path: &str,
     sink: &mut K,
     files: &mut F,
@@ -216,7 +216,7 @@ pub fn run_node_files<
 {
     match load_settings(alloc, words.path, files, sink) {
         Ok(settings) => {
-            let here = Here {
+            let here = NodeContext {
                 alloc,
                 settings: &settings,
             };

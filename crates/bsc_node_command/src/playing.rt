@@ -13,8 +13,8 @@ ghost use Rattle.bsc_node_run.specs.Worlds.{Admitting, admitting, dialling};
 ghost use Rattle.bsc_node_laws.specs.Courses.{FinishCame};
 ghost use Rattle.bsc_node_command.specs.Comes.{Comes, IsBoundBy, IsUnasked, NodeRan, acceptor_world, made_by, node_world};
 
-use crate::here::Here;
 use crate::making::make_node;
+use crate::node_context::NodeContext;
 use crate::running_node::RunningNode;
 use bsc_edge::{Acceptor, Clock, Dialer, Failed, Link, Waiter};
 use bsc_node_run::{Due, Halt, NodeParts, RunEnd, RunTerms, ScriptFault, Words, read_script};
@@ -24,7 +24,7 @@ use bsc_settings::{NodeSettings, settings_are_of_nodes};
 use std::alloc::Global;
 
 /// Writes what the end of a run comes to, and gives its status.
-fn tell_end<K: Sink>(sink: &mut K, end: Result<RunEnd, Halt>) -> u8
+pub(crate) fn tell_end<K: Sink>(sink: &mut K, end: Result<RunEnd, Halt>) -> u8
     ensures says { SaysEnd end result (K.held sink.old) (K.held sink.new) }
     ensures write { result ≡ 4 → (end ≡ Err HaltType.WriteFault) ⊎ HasRisen (K.faults sink.old) (K.faults sink.new) }
     ensures link { result ≡ 6 → end ≡ Err HaltType.AcceptFault }
@@ -42,7 +42,10 @@ fn tell_end<K: Sink>(sink: &mut K, end: Result<RunEnd, Halt>) -> u8
 
 /// Binds the port of direct connections, where the settings have one.
 #[tactic(auto, using(bsc_edge::proofs::Common::stays_same))]
-fn bind<L, A: Acceptor<L>>(settings: &NodeSettings, acceptor: &mut A) -> Result<(), Failed>
+pub(crate) fn bind<L, A: Acceptor<L>>(
+    settings: &NodeSettings,
+    acceptor: &mut A,
+) -> Result<(), Failed>
     ensures bound { IfOk result (λ _. IsBoundBy settings.now.direct_port (A.bound acceptor.old) (A.bound acceptor.new)) }
     ensures left { Stays (A.left acceptor.old) (A.left acceptor.new) }
     ensures came { Stays (A.came acceptor.old) (A.came acceptor.new) }
@@ -58,7 +61,7 @@ fn bind<L, A: Acceptor<L>>(settings: &NodeSettings, acceptor: &mut A) -> Result<
 
 /// Runs a node that was made, and writes what it comes to.
 fn run_made<K: Sink, C: Clock, V: Waiter, W: Words, L: Link + Drop, A: Acceptor<L>, D: Dialer<L>>(
-    here: Here<'_>,
+    here: NodeContext<'_>,
     node: RunningNode,
     lines: &[Due],
     sink: &mut K,
@@ -95,7 +98,7 @@ fn run_made<K: Sink, C: Clock, V: Waiter, W: Words, L: Link + Drop, A: Acceptor<
 
 /// Binds its port, where it has one, makes the node, and runs it.
 fn run_lines<K: Sink, C: Clock, V: Waiter, W: Words, L: Link + Drop, A: Acceptor<L>, D: Dialer<L>>(
-    here: Here<'_>,
+    here: NodeContext<'_>,
     lines: &[Due],
     sink: &mut K,
     clock: &mut C,
@@ -125,7 +128,7 @@ fn run_lines<K: Sink, C: Clock, V: Waiter, W: Words, L: Link + Drop, A: Acceptor
 
 /// Reads the whole script, and runs a node of the settings by it.
 fn run_text<K: Sink, C: Clock, V: Waiter, W: Words, L: Link + Drop, A: Acceptor<L>, D: Dialer<L>>(
-    here: Here<'_>,
+    here: NodeContext<'_>,
     script: &[u8],
     sink: &mut K,
     clock: &mut C,
@@ -202,6 +205,6 @@ pub fn run_node<
     ensures writes_later { K.faults sink.old ≤ K.faults sink.new }
     ensures links_later { A.faults acceptor.old ≤ A.faults acceptor.new }
 {
-    let here = Here { alloc, settings };
+    let here = NodeContext { alloc, settings };
     run_text(here, script, sink, clock, acceptor, parts)
 }

@@ -46,8 +46,8 @@ impl<L: Link> Link for BoxedLink<L> {
         self.link.as_mut().close(alloc, code, reason)
     }
 
-    fn known_as(&mut self, conn: u64) {
-        self.link.as_mut().known_as(conn);
+    fn set_connection(&mut self, conn: u64) {
+        self.link.as_mut().set_connection(conn);
     }
 
     fn wake(&mut self, conn: u64) {

@@ -4,7 +4,7 @@ use crate::boxing_dialer::BoxingDialer;
 use crate::waiting::Shared;
 use bsc_edge::{ToldDialer, ToldLink};
 use bsc_gate::{SocketLink, SocketOpener};
-use bsc_live::Bells;
+use bsc_live::Wakers;
 use bsc_log::{LoggedLink, UnloggedDialer};
 use bsc_octets::NoMemory;
 use bsc_ws::StreamDialer;
@@ -30,7 +30,7 @@ pub fn real_dialer<R: Clock + Net + RandomSource + Wait + Copy + Drop>(
     alloc: Global,
     shared: Shared,
 ) -> Result<RealDialer<R>, NoMemory> {
-    let bells = Arc::new(alloc, Bells::new(alloc)?)?;
+    let bells = Arc::new(alloc, Wakers::new(alloc)?)?;
     let Shared { watch, lingering } = shared;
     let opener = SocketOpener::new(rt, bells).lingering_at(lingering);
     let dialer = StreamDialer::new(match watch {

@@ -1,9 +1,12 @@
 //! What the program waits by between the turns of a node.
 ghost use Rattle.std.specs.Prelude.{◌≡◌, [], IfOk, Some};
+ghost use Rattle.bsc_ring.specs.Ends.{given};
 
+use crate::live_inbox::{LineRouser, LiveInbox};
 use bsc_edge::{Kind, Waiter};
 use bsc_live::{Lingering, Watch, Watcher};
 use bsc_past::Past;
+use bsc_ring::Outlet;
 use std::alloc::Global;
 use std::io::{self, ErrorKind};
 use std::net::Net;
@@ -69,6 +72,18 @@ impl<R: Clock + Net + Wait + Drop> RealWaiter<R> {
             watch,
             lingering: again(&self.lingering)?,
         })
+    }
+
+    /// The inbox at this outlet, for a node that waits here, and what rouses it. Fails for a hub, which has nothing to wait by.
+    pub fn inbox(&self, outlet: Outlet) -> io::Result<(LiveInbox, LineRouser)>
+        requires { given outlet ≡ [] }
+        ensures taken { IfOk result (λ (inbox, _). inbox.ring.taken.items ≡ []) }
+        ensures outlet { IfOk result (λ (inbox, _). inbox.ring.outlet ≡ outlet) }
+    {
+        match &self.watcher {
+            Some(watcher) => LiveInbox::new(outlet, &watcher.watch()?),
+            None => Err(io::Error::from(ErrorKind::Unsupported)),
+        }
     }
 
     /// Waits until no socket lingers any more, 1,000 ms at most: a process that ends lets all go.

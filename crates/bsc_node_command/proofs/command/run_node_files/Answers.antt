@@ -23,9 +23,30 @@ returns-in-Ok-clause-runs g c =
     let old = c.args in
     let mid = c.load_settings.new in
     let s = c.run_script.result in
-    let first : Option (List ℕ) → NodeWorld g.row.L.Denot g.row.W.Denot = λ (t : Option (List ℕ)). record { dialled = dialling D.calls D.left D.came D.faults old.parts.now.dialer; door = admitting A.left A.came A.waits old.acceptor.now; port = A.bound old.acceptor.now; faults = A.faults old.acceptor.now; readings = C.readings old.clock.now; waited = V.waits old.parts.now.waiter; random = old.parts.now.random; written = t } in
+    let first : Option (List ℕ) → NodeWorld g.row.L.Denot g.row.W.Denot = λ (t : Option (List ℕ)). record {
+      dialled = dialling D.calls D.left D.came D.faults old.parts.now.dialer;
+      door = admitting A.left A.came A.waits old.acceptor.now;
+      port = A.bound old.acceptor.now;
+      faults = A.faults old.acceptor.now;
+      readings = C.readings old.clock.now;
+      waited = V.waits old.parts.now.waiter;
+      random = old.parts.now.random;
+      written = t;
+    } in
     let before : Option (List ℕ) → CommandWorld g.row.L.Denot g.row.W.Denot = λ (t : Option (List ℕ)). record { unread = F.faults mid.files; beside = first t } in
-    let after : CommandWorld g.row.L.Denot g.row.W.Denot = record { unread = F.faults c.run_script.new.files; beside = record { dialled = dialling D.calls D.left D.came D.faults c.run_script.new.parts.dialer; door = admitting A.left A.came A.waits c.run_script.new.acceptor; port = A.bound c.run_script.new.acceptor; faults = A.faults c.run_script.new.acceptor; readings = C.readings c.run_script.new.clock; waited = V.waits c.run_script.new.parts.waiter; random = c.run_script.new.parts.random; written = K.held c.run_script.new.sink } } in
+    let after : CommandWorld g.row.L.Denot g.row.W.Denot = record {
+      unread = F.faults c.run_script.new.files;
+      beside = record {
+        dialled = dialling D.calls D.left D.came D.faults c.run_script.new.parts.dialer;
+        door = admitting A.left A.came A.waits c.run_script.new.acceptor;
+        port = A.bound c.run_script.new.acceptor;
+        faults = A.faults c.run_script.new.acceptor;
+        readings = C.readings c.run_script.new.clock;
+        waited = V.waits c.run_script.new.parts.waiter;
+        random = c.run_script.new.parts.random;
+        written = K.held c.run_script.new.sink;
+      };
+    } in
     let new = c.run_script.new.files in
     let settings = c.args.words.path.now in
     let ran = subst (λ (t : Option (List ℕ)). RunsScript talk drawn v (GaveFile F.holds F.loads mid.files new path) (before t) after s)
@@ -51,8 +72,32 @@ returns-in-Ok-clause-finished g c =
     let C = g.C.Clock in
     let V = g.V.Waiter in
     let K = g.K.Sink in
-    let before : CommandWorld g.row.L.Denot g.row.W.Denot = record { unread = F.faults c.args.files.now; beside = record { dialled = dialling D.calls D.left D.came D.faults c.args.parts.now.dialer; door = admitting A.left A.came A.waits c.args.acceptor.now; port = A.bound c.args.acceptor.now; faults = A.faults c.args.acceptor.now; readings = C.readings c.args.clock.now; waited = V.waits c.args.parts.now.waiter; random = c.args.parts.now.random; written = K.held c.args.sink.now } } in
-    let after : CommandWorld g.row.L.Denot g.row.W.Denot = record { unread = F.faults c.run_script.new.files; beside = record { dialled = dialling D.calls D.left D.came D.faults c.run_script.new.parts.dialer; door = admitting A.left A.came A.waits c.run_script.new.acceptor; port = A.bound c.run_script.new.acceptor; faults = A.faults c.run_script.new.acceptor; readings = C.readings c.run_script.new.clock; waited = V.waits c.run_script.new.parts.waiter; random = c.run_script.new.parts.random; written = K.held c.run_script.new.sink } } in
+    let before : CommandWorld g.row.L.Denot g.row.W.Denot = record {
+      unread = F.faults c.args.files.now;
+      beside = record {
+        dialled = dialling D.calls D.left D.came D.faults c.args.parts.now.dialer;
+        door = admitting A.left A.came A.waits c.args.acceptor.now;
+        port = A.bound c.args.acceptor.now;
+        faults = A.faults c.args.acceptor.now;
+        readings = C.readings c.args.clock.now;
+        waited = V.waits c.args.parts.now.waiter;
+        random = c.args.parts.now.random;
+        written = K.held c.args.sink.now;
+      };
+    } in
+    let after : CommandWorld g.row.L.Denot g.row.W.Denot = record {
+      unread = F.faults c.run_script.new.files;
+      beside = record {
+        dialled = dialling D.calls D.left D.came D.faults c.run_script.new.parts.dialer;
+        door = admitting A.left A.came A.waits c.run_script.new.acceptor;
+        port = A.bound c.run_script.new.acceptor;
+        faults = A.faults c.run_script.new.acceptor;
+        readings = C.readings c.run_script.new.clock;
+        waited = V.waits c.run_script.new.parts.waiter;
+        random = c.run_script.new.parts.random;
+        written = K.held c.run_script.new.sink;
+      };
+    } in
     files_finished g.L.Link.talk (Draws g.W.Words.gives g.W.Words.faults) (GaveFile F.holds F.loads c.args.files.now c.run_script.new.files c.args.words.path.now)
     (GaveFile F.holds F.loads c.args.files.now c.run_script.new.files c.args.words.script.now) before after
     c.run_script.result (returns-in-Ok-clause-runs g c)
@@ -62,7 +107,8 @@ returns-in-Ok-clause-finished g c =
 pub returns-in-Ok-clause-loaded : goal.returns-in-Ok-clause-loaded
 returns-in-Ok-clause-loaded g c =
     let loads = g.F.Files.loads in
-    reads_both (loads c.args.files.now) (loads c.load_settings.new.files) (loads c.run_script.new.files) c.args.words.path.now c.args.words.script.now c.load_settings.ensures.once c.run_script.ensures.once
+    reads_both (loads c.args.files.now) (loads c.load_settings.new.files)
+    (loads c.run_script.new.files) c.args.words.path.now c.args.words.script.now c.load_settings.ensures.once c.run_script.ensures.once
 
 pub returns-in-Err-clause-loaded : goal.returns-in-Err-clause-loaded
 returns-in-Err-clause-loaded g c =

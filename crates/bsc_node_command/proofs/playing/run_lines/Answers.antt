@@ -9,7 +9,25 @@ returns-in-Ok-make_node-clause-comes g c script reads =
     (c.bind.ensures.left, c.bind.ensures.came, c.bind.ensures.waits) c.in-Ok.ensures.bound)
 
 pub returns-in-Err-make_node-clause-comes : goal.returns-in-Err-make_node-clause-comes
-returns-in-Err-make_node-clause-comes g c script reads = inl (record { dialled = refl; door = (c.bind.ensures.left, c.bind.ensures.came, c.bind.ensures.waits); readings = refl; waited = refl; random = refl }, inr (inr (inr c.in-Ok.ensures.bound, (c.out_of_memory.ensures.status, c.out_of_memory.ensures.tried))))
+returns-in-Err-make_node-clause-comes g c script reads = inl (
+  record {
+    dialled = refl;
+    door = (c.bind.ensures.left, c.bind.ensures.came, c.bind.ensures.waits);
+    readings = refl;
+    waited = refl;
+    random = refl;
+  },
+  inr (inr (inr c.in-Ok.ensures.bound, (c.out_of_memory.ensures.status, c.out_of_memory.ensures.tried))),
+)
 
 pub returns-in-Err-clause-comes : goal.returns-in-Err-clause-comes
-returns-in-Err-clause-comes g c script reads = inl (record { dialled = refl; door = (c.bind.ensures.left, c.bind.ensures.came, c.bind.ensures.waits); readings = refl; waited = refl; random = refl }, inr (inl (c.args.lines.now, reads, c.bind.ensures.failed (search rules), c.end_with.ensures.ends)))
+returns-in-Err-clause-comes g c script reads = inl (
+  record {
+    dialled = refl;
+    door = (c.bind.ensures.left, c.bind.ensures.came, c.bind.ensures.waits);
+    readings = refl;
+    waited = refl;
+    random = refl;
+  },
+  inr (inl (c.args.lines.now, reads, c.bind.ensures.failed (search rules), c.end_with.ensures.ends)),
+)

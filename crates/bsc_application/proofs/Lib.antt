@@ -1,0 +1,9 @@
+pub mod Asking
+pub mod Turns
+pub mod Lives
+pub mod Pauses
+pub mod Plans
+pub mod Among
+pub mod Defined
+pub mod Stopped
+pub mod Waits

@@ -1,0 +1,8 @@
+use Rattle.std.proofs.Common.{◌≡◌, None}
+use Rattle.bsc_ring.specs.Ends.{ending_of, inlet_mark, pushed}
+use Rattle.bsc_input.proofs.feeding.put_line.Given as goal
+
+abbrev pub invariant-loop : goal.invariant-loop
+invariant-loop g l =
+    (goal.iterator-loop g).can_next l.iterator' × (goal.iterator-loop g).is_finite l.iterator' × (inlet_mark l.inlet ≡ inlet_mark l.fn.inlet) × (ending_of l.inlet ≡ None)
+    × (pushed l.inlet ≡ pushed l.fn.inlet) × (l.line ≡ l.fn.line)

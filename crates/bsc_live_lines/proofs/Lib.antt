@@ -1,0 +1,4 @@
+mod AskedWell
+mod More
+mod CountsOn
+pub mod Ending
