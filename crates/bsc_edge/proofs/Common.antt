@@ -1,4 +1,5 @@
 -- Lemmas that crates above cite too: what is told grows, and stays.
+-- It serves many crates above.
 use Rattle.std.proofs.Common.{List, [], ◌++◌, Option, Some, None, refl, ap, sym, ◌∙◌, append_assoc, append-nil}
 use Rattle.bsc_edge.specs.Told.{Grows, Stays}
 

@@ -1,4 +1,5 @@
 -- Files that were read, one behind another.
+-- It serves bsc_commands, bsc_hub_command and bsc_node_command.
 use Rattle.std.proofs.Common.{◌≡◌, ℕ, List, [], ◌∷◌, ◌++◌, Option, Ok, refl, sym, subst, append_assoc}
 use Rattle.std.specs.Prelude.{Result, Err, IfOk}
 use Rattle.bsc_edge.specs.declared.fault.FileFault.{FileFault}

@@ -1,4 +1,5 @@
 -- A list that lost the element at a place.
+-- It serves the clauses of `give`.
 use Rattle.std.proofs.Common.{◌≡◌, ℕ, suc, ◌+◌, ◌<◌, List, ◌∷◌, ◌++◌, length, get_or, take, drop, map, ap, sym, ◌∙◌, arith}
 use Rattle.std.proofs.lemmas.List.{drop_more, map-append, take-append-drop}
 use Rattle.bsc_edge.specs.Told.{Ends}

@@ -1,4 +1,5 @@
 -- What is said of files that were read, of some that tell their reads as a list.
+-- No clause needs it: worked examples.
 use Rattle.std.proofs.Common.{◌≡◌, ℕ, List, [], ◌∷◌, codes, Some, Ok, refl}
 use Rattle.std.specs.Prelude.{⊤}
 use Rattle.bsc_edge.specs.declared.loaded.Loaded.{Loaded}

@@ -54,7 +54,7 @@ pub trait Link {
         ensures quiets { quiets self.old ≤ quiets self.new };
 
     /// The link is this connection's from now on.
-    fn known_as(&mut self, conn: u64)
+    fn set_connection(&mut self, conn: u64)
         ensures told { Stays (talk self.old) (talk self.new) }
         ensures known { Grows (notices self.old) (notices self.new) (Notice.Known conn ∷ []) }
         ensures same { faults self.new ≡ faults self.old }

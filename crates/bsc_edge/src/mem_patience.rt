@@ -48,7 +48,7 @@ impl Patience for MemPatience<'_> {
         Ok(())
     }
 
-    fn known_as(&mut self, _conn: u64) {}
+    fn set_connection(&mut self, _conn: u64) {}
 
     fn wake(&mut self, _conn: u64) {}
 }

@@ -30,7 +30,7 @@ pub trait Patience {
         ensures failed { IsErr result → HasRisen (faults self.old) (faults self.new) };
 
     /// The link is this connection's from now on.
-    fn known_as(&mut self, conn: u64)
+    fn set_connection(&mut self, conn: u64)
         ensures told { Stays (waits self.old) (waits self.new) }
         ensures known { Grows (notices self.old) (notices self.new) (Notice.Known conn ∷ []) }
         ensures same { faults self.new ≡ faults self.old };

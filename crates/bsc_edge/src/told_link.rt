@@ -62,8 +62,8 @@ impl<L: Link> Link for ToldLink<L> {
         answer
     }
 
-    fn known_as(&mut self, conn: u64) {
-        self.link.known_as(conn);
+    fn set_connection(&mut self, conn: u64) {
+        self.link.set_connection(conn);
         self.notices.add(&Notice::Known(conn));
     }
 

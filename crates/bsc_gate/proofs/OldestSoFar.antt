@@ -1,4 +1,5 @@
 -- The oldest of the first places of a table.
+-- It serves the clauses of `place`.
 use Rattle.std.proofs.Common.{◌≡◌, ◌+◌, ◌≤◌, ◌<◌, ℕ, List, length, slice_get, Option, Some, None, IfSome, inr, refl, sym, ap, ◌∙◌, ⊎_elim, arith}
 use Rattle.std.proofs.lemmas.Option.{none-some, same_Some as some-is}
 use Rattle.std.proofs.lemmas.Bool.{cases_lt}

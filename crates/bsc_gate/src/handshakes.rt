@@ -7,7 +7,7 @@ use crate::oldest::{Oldest, older};
 use bsc_edge::Kind;
 use bsc_live::Moment;
 use bsc_octets::NoMemory;
-use bsc_ws::{Handshake, Step, begin};
+use bsc_ws::{Handshake, HandshakeStep, begin};
 use mio::net::TcpStream;
 use mio::{Interest, Registry, Token};
 use std::alloc::Global;
@@ -145,7 +145,7 @@ impl Handshakes {
             is_registered,
         } = row.take()?;
         match handshake.go_on() {
-            Step::More(handshake) => {
+            HandshakeStep::More(handshake) => {
                 *row = Some(Row {
                     handshake,
                     until,
@@ -153,12 +153,12 @@ impl Handshakes {
                 });
                 None
             }
-            Step::Done(socket, kind) => Some((socket, kind, is_registered)),
-            Step::Refused => {
+            HandshakeStep::Done(socket, kind) => Some((socket, kind, is_registered)),
+            HandshakeStep::Refused => {
                 self.turned.refused = self.turned.refused.saturating_add(1);
                 None
             }
-            Step::NoMemory => {
+            HandshakeStep::NoMemory => {
                 self.turned.refused = self.turned.refused.saturating_add(1);
                 None
             }

@@ -3,7 +3,7 @@ ghost use Rattle.std.specs.Prelude.{◌≡◌, [], ◌∷◌, ◌++◌, Some};
 
 use crate::socket_link::{HANDSHAKE_MS, alive};
 use bsc_edge::LinkFault;
-use bsc_live::{Bells, Lingering, LivePatience, LiveStream, Moment, Watch};
+use bsc_live::{Lingering, LivePatience, LiveStream, Moment, Wakers, Watch};
 use bsc_past::Past;
 use bsc_ws::{Opener, RandomKeys};
 use mio::net::TcpStream;
@@ -19,7 +19,7 @@ use std::time::Clock;
 #[derive(Drop)]
 pub struct SocketOpener<R> {
     rt: R,
-    bells: Arc<Bells>,
+    bells: Arc<Wakers>,
     watch: Option<Arc<Watch>>,
     lingering: Option<Arc<Lingering>>,
     opened: Past<SocketAddrV4>,
@@ -39,7 +39,7 @@ fn connect<R: Net>(
 
 impl<R> SocketOpener<R> {
     /// An opener for the links of a hub or a node that has these bells.
-    pub fn new(rt: R, bells: Arc<Bells>) -> SocketOpener<R>
+    pub fn new(rt: R, bells: Arc<Wakers>) -> SocketOpener<R>
         ensures { result.opened.items ≡ [] }
     {
         SocketOpener {

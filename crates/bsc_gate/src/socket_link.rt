@@ -3,7 +3,7 @@ ghost use Rattle.std.specs.Prelude.{◌≡◌, IfOk};
 ghost use Rattle.tungstenite.specs.Heads.{Heard};
 
 use bsc_edge::{Kind, LinkFault};
-use bsc_live::{Bells, Debts, Lingering, LivePatience, LiveStream, Watch};
+use bsc_live::{DeferredWakes, Lingering, LivePatience, LiveStream, Wakers, Watch};
 use bsc_ws::{RandomKeys, StreamLink, settle};
 use mio::net::TcpStream;
 use std::alloc::Global;
@@ -46,7 +46,7 @@ pub(crate) fn alive<R: Clock + Net + Wait + Copy + Drop>(
     rt: R,
     alloc: Global,
     socket: TcpStream,
-    bells: &Arc<Bells>,
+    bells: &Arc<Wakers>,
     watch: &Option<Arc<Watch>>,
     lingering: &Option<Arc<Lingering>>,
 ) -> Result<(LiveStream<R>, LivePatience<R>), LinkFault> {
@@ -70,7 +70,7 @@ pub(crate) fn accepted<R: Clock + Net + Wait + RandomSource + Copy + Drop>(
     alloc: Global,
     socket: TcpStream,
     kind: Kind,
-    bells: &Arc<Bells>,
+    bells: &Arc<Wakers>,
     watch: &Option<Arc<Watch>>,
     lingering: &Option<Arc<Lingering>>,
 ) -> Result<SocketLink<R>, LinkFault>
@@ -81,7 +81,7 @@ pub(crate) fn accepted<R: Clock + Net + Wait + RandomSource + Copy + Drop>(
     if watch.is_some() {
         return Ok(settle(alloc, stream, wait, RandomKeys::new(rt), kind));
     }
-    let Ok(debts) = Arc::new(alloc, Debts::new(alloc)) else {
+    let Ok(debts) = Arc::new(alloc, DeferredWakes::new(alloc)) else {
         return Err(LinkFault::NoMemory);
     };
     let Ok(stream) = stream.holding().ringing(&debts) else {

@@ -1,3 +1,4 @@
 pub mod Batches
+pub mod Naks
 pub mod Requests
 pub mod Stamps

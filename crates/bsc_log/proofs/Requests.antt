@@ -1,4 +1,5 @@
 -- A Connect-Request without addresses and options.
+-- It serves the clauses of `plain_asker`.
 use Rattle.std.proofs.Common.{◌≡◌, ℕ, ◌+◌, ◌*◌, ◌<◌, ◌^◌, Option, Some, None, IfSome, List, [], ◌∷◌, ◌++◌, length, get_or, drop, lit<, refl, sym, ap, subst, ◌∙◌, arith, append-nil}
 use Rattle.byteorder.specs.Endian.{big_bytes, big_number}
 use Rattle.bsc_octets.specs.declared.identity.Identity.{Identity}
@@ -46,7 +47,8 @@ parts (f ∷ g ∷ []) long six zero = absurd (too_few 2 long (lit< tt))
 parts (f ∷ g ∷ a ∷ []) long six zero = absurd (too_few 3 long (lit< tt))
 parts (f ∷ g ∷ a ∷ b ∷ p) long six zero = ap (λ (n : ℕ). n ∷ g ∷ a ∷ b ∷ p) six ∙ ap (λ (n : ℕ). 6 ∷ n ∷ a ∷ b ∷ p) zero
 
-pub asks_plainly : (m p : List ℕ) (r : Option Identity) → ((i : ℕ) → get_or m i 0 < 256) → length m ≡ 30 → get_or m 0 0 ≡ 6 → get_or m 1 0 ≡ 0 → p ≡ drop 4 m → IfSome r (λ who. IsNode who × (identity_octets who ≡ p)) → IfSome r (λ who. Asks m who)
+pub asks_plainly : (m p : List ℕ) (r : Option Identity) → ((i : ℕ) → get_or m i 0 < 256) → length m ≡ 30 → get_or m 0 0 ≡ 6 → get_or m 1 0 ≡ 0 → p ≡ drop 4 m
+    → IfSome r (λ who. IsNode who × (identity_octets who ≡ p)) → IfSome r (λ who. Asks m who)
 asks_plainly m p None octets long six zero behind found = tt
 asks_plainly m p (Some who) octets long six zero behind found =
     subst (λ (l : List ℕ). Asks l who) (sym (parts m long six zero)) (asks_by (get_or m 2 0) (get_or m 3 0) (drop 4 m) who (octets 2) (octets 3) found.0 (found.1 ∙ behind))

@@ -1,4 +1,5 @@
 -- What a date and a time of day come to, as a number and as a text.
+-- It serves the clauses of `text_at`.
 use Rattle.std.proofs.Common.{◌≡◌, ℕ, ◌/◌, ◌%◌, List, [], ◌∷◌, ◌++◌, pos, ap, ◌∙◌, arith, append_assoc}
 use Rattle.jiff_core.specs.declared.civil.datetime.DateTime.{DateTime}
 use Rattle.jiff_core.specs.Date.{epoch_day}
@@ -7,7 +8,8 @@ use Rattle.jiff_core.specs.Time.{time_seconds}
 use Rattle.jiff_core.proofs.SignedLemmas.{signed_arith}
 
 -- the day, the second of the day and the nanosecond of the second
-pub day_and_time : (nanos : ℕ) (at : DateTime) → epoch_day at.date ≡ pos (nanos / 1_000_000_000 / 86_400) → time_seconds at.time ≡ nanos / 1_000_000_000 % 86_400 → at.time.subsec_nanosecond ≡ nanos % 1_000_000_000 → civil_nanos at ≡ pos nanos
+pub day_and_time : (nanos : ℕ) (at : DateTime) → epoch_day at.date ≡ pos (nanos / 1_000_000_000 / 86_400) → time_seconds at.time ≡ nanos / 1_000_000_000 % 86_400
+    → at.time.subsec_nanosecond ≡ nanos % 1_000_000_000 → civil_nanos at ≡ pos nanos
 unfolding civil_nanos
 day_and_time nanos at day second subsec = omega (arith, signed_arith)
 

@@ -2,7 +2,7 @@
 use Rattle.std.specs.Prelude.{◌≡◌, ℕ, List, [], ◌∷◌, ◌++◌, ⊤}
 use Rattle.std.specs.Duration.{as_nanos}
 use Rattle.bsc_log.specs.declared.line.Line.{Line}
-use Rattle.bsc_log.specs.declared.told.Told.{Told}
+use Rattle.bsc_log.specs.declared.log_record.LogRecord.{LogRecord}
 use Rattle.bsc_log.specs.Lines.{line_text}
 use Rattle.bsc_log.specs.Stamps.{IsStampOf}
 
@@ -11,7 +11,7 @@ abbrev pub ended_text : Line → List ℕ
 ended_text line = line_text line ++ 10 ∷ []
 
 -- The line says what was told: it has the stamp of that time, and all else as it was told.
-pub record Says (told : Told) (line : Line) : Type 0 where
+pub record Says (told : LogRecord) (line : Line) : Type 0 where
   pub stamp : IsStampOf (as_nanos told.since) line.stamp.bytes
   pub event : line.event ≡ told.event
   pub link : line.link ≡ told.link
@@ -21,7 +21,7 @@ pub record Says (told : Told) (line : Line) : Type 0 where
   pub sent : line.sent ≡ told.sent
 
 -- Of these lines each says what was told in its place.
-abbrev pub AllSay : List Told → List Line → Type 0
+abbrev pub AllSay : List LogRecord → List Line → Type 0
 AllSay [] [] = ⊤
 AllSay (one ∷ told) (line ∷ lines) = Says one line × AllSay told lines
 AllSay told lines = ⊥

@@ -2,8 +2,8 @@
 use Rattle.std.specs.Prelude.{ℕ, ◌+◌, ◌-◌, ◌^◌, ◌==◌, ◌&&◌, ◌∷◌, List, Bool, true, false, Option, Some, None, is_some, min, if◌then◌else◌}
 use Rattle.bsc_octets.specs.declared.identity.Identity.{Identity}
 use Rattle.bsc_log.specs.declared.course.Course.{Course}
-use Rattle.bsc_log.specs.declared.event.Event.{Event}
-use Rattle.bsc_log.specs.declared.event.Event.TheVariants.{TookOver}
+use Rattle.bsc_log.specs.declared.log_event.LogEvent.{LogEvent}
+use Rattle.bsc_log.specs.declared.log_event.LogEvent.TheVariants.{TookOver}
 use Rattle.bsc_log.specs.declared.stage.Stage.{Stage}
 use Rattle.bsc_log.specs.declared.stage.Stage.TheVariants.{Silent, Waiting, Asked, Introduced, Joined, Leaving, Over}
 
@@ -87,11 +87,11 @@ ended c = record c { stage = Over }
 -- ---- what it tells then
 
 -- This, unless it had ended before.
-abbrev pub once : Stage → Event → Option Event
+abbrev pub once : Stage → LogEvent → Option LogEvent
 once Over event = None
 once stage event = Some event
 
 -- Right behind its own join it took the place of that other connection.
-abbrev pub takeover : Stage → ℕ → Option Event
+abbrev pub takeover : Stage → ℕ → Option LogEvent
 takeover Introduced conn = Some (TookOver conn)
 takeover stage conn = None

@@ -10,16 +10,18 @@ use Rattle.bsc_edge.specs.declared.said.Said.{Said}
 use Rattle.bsc_edge.specs.declared.said.Said.TheVariants.{Gave, Put, Closed}
 use Rattle.bsc_octets.specs.declared.identity.Identity.{Identity}
 use Rattle.bsc_log.specs.declared.course.Course.{Course}
-use Rattle.bsc_log.specs.declared.event.Event.{Event}
-use Rattle.bsc_log.specs.declared.event.Event.TheVariants.{Joined, Ended}
-use Rattle.bsc_log.specs.declared.event.Cause.TheVariants.{LinkFault}
-use Rattle.bsc_log.specs.declared.log.Log.{Log}
+use Rattle.bsc_log.specs.declared.log_event.LogEvent.{LogEvent}
+use Rattle.bsc_log.specs.declared.log_event.LogEvent.TheVariants.{Joined, Ended}
+use Rattle.bsc_log.specs.declared.log_event.Cause.TheVariants.{LinkFault}
+use Rattle.bsc_log.specs.declared.link_log.LinkLog.{LinkLog}
+use Rattle.bsc_log.specs.declared.nak.Nak.{Nak}
 use Rattle.bsc_log.specs.declared.stage.Stage.{Stage}
 use Rattle.bsc_log.specs.declared.stage.Stage.TheVariants.{Silent}
-use Rattle.bsc_log.specs.declared.told.Told.{Told}
+use Rattle.bsc_log.specs.declared.log_record.LogRecord.{LogRecord}
 use Rattle.bsc_log.specs.Asking.{Asks, AsksPlainly}
 use Rattle.bsc_log.specs.Causes.{IsReasonOf, closed_at, peer_closed_at}
 use Rattle.bsc_log.specs.Courses.{ended, heard, hushed, introduced, may_join, once, put, takeover, woken}
+use Rattle.bsc_log.specs.Naks.{IsTold, nak_event}
 
 -- Who asks to join by a message, on a link that is so far: the device of which it is the Connect-Request, and none on one that has
 -- joined. A plain Connect-Request is always known; any other may not be, where there is no memory to read it.
@@ -28,17 +30,17 @@ IsAsker stage m (Some who) = (may_join stage ≡ true) × Asks m who
 IsAsker stage m None = may_join stage ≡ true → ¬ AsksPlainly m
 
 -- What is told of a link of which this is known.
-abbrev pub told_of : Course → Duration → Event → Told
+abbrev pub told_of : Course → Duration → LogEvent → LogRecord
 told_of c since event = record { since = since; event = event; link = c.link; conn = c.conn; who = c.who; received = c.received; sent = c.sent }
 
 -- What was told grew by this, if it is anything, with what is known of the link.
-abbrev pub Tells : Course → Option Event → List Told → List Told → Type 0
+abbrev pub Tells : Course → Option LogEvent → List LogRecord → List LogRecord → Type 0
 Tells c None old new = new ≡ old
 Tells c (Some event) old new = (since : Duration) × (new ≡ old ++ told_of c since event ∷ [])
 
 module _ {R : Type 0} where
   -- A log begins: no call was made on its link, nobody is known, nothing was counted, and nothing told.
-  pub record Begins (log : Log R) : Type 0 where
+  pub record Begins (log : LinkLog R) : Type 0 where
     pub silent : log.course.stage ≡ Silent
     pub conn : log.course.conn ≡ None
     pub who : log.course.who ≡ None
@@ -47,39 +49,40 @@ module _ {R : Type 0} where
     pub told : log.told.items ≡ []
 
   -- A log goes on: this is known of its link then, and this is told of it, if anything is.
-  abbrev pub GoesOn : Log R → Log R → Course → Option Event → Type 0
+  abbrev pub GoesOn : LinkLog R → LinkLog R → Course → Option LogEvent → Type 0
   GoesOn old new c event = (new.course ≡ c) × Tells c event old.told.items new.told.items
 
   -- The link has ended, with this event.
-  abbrev pub Ends : Log R → Log R → Event → Type 0
+  abbrev pub Ends : LinkLog R → LinkLog R → LogEvent → Type 0
   Ends old new event = GoesOn old new (ended old.course) (once old.course.stage event)
 
   -- How a log goes on by what is said on its link.
-  abbrev pub Hears : Log R → Log R → Said → Type 0
+  abbrev pub Hears : LinkLog R → LinkLog R → Said → Type 0
   Hears old new (Gave wait (Ok (Message m))) =
       (asker : Option Identity) × IsAsker old.course.stage m asker × GoesOn old new (heard asker old.course) None
   Hears old new (Gave wait (Ok PeerClosed)) = (taken : Bool) × Ends old new (peer_closed_at old.course.stage taken)
   Hears old new (Gave wait (Err Failed)) = Ends old new (Ended LinkFault)
   Hears old new (Gave wait given) = GoesOn old new (hushed old.course) None
-  Hears old new (Put m None) = GoesOn old new (put m old.course) None
+  Hears old new (Put m None) =
+      (nak : Option Nak) × IsTold old.course.stage m nak × GoesOn old new (put m old.course) (nak_event nak)
   Hears old new (Put m (Some Failed)) = Ends old new (Ended LinkFault)
   Hears old new (Put m (Some NoMemory)) = GoesOn old new (hushed old.course) None
   Hears old new (Closed code text) =
       (reason : Option Reason) × IsReasonOf text reason × (taken : Bool) × Ends old new (closed_at old.course.stage code reason taken)
 
   -- How it goes on by what the link is told. What a receive makes of it stands above.
-  abbrev pub Heeds : Log R → Log R → Notice → Type 0
+  abbrev pub Heeds : LinkLog R → LinkLog R → Notice → Type 0
   Heeds old new Asked = ⊤
   Heeds old new (Known conn) = GoesOn old new (introduced conn old.course) (Some Joined)
   Heeds old new (Woke conn) = GoesOn old new (woken old.course) (takeover old.course.stage conn)
 
   -- The same of a link that has a log. One without stays without.
-  abbrev pub Follows : Option (Log R) → Option (Log R) → Said → Type 0
+  abbrev pub Follows : Option (LinkLog R) → Option (LinkLog R) → Said → Type 0
   Follows None None said = ⊤
   Follows (Some old) (Some new) said = Hears old new said
   Follows old new said = ⊥
 
-  abbrev pub Minds : Option (Log R) → Option (Log R) → Notice → Type 0
+  abbrev pub Minds : Option (LinkLog R) → Option (LinkLog R) → Notice → Type 0
   Minds None None notice = ⊤
   Minds (Some old) (Some new) notice = Heeds old new notice
   Minds old new notice = ⊥

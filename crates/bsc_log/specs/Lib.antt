@@ -4,7 +4,9 @@ pub mod Causes
 pub mod Courses
 pub mod Fields
 pub mod Following
+pub mod Limits
 pub mod Lines
 pub mod Logged
+pub mod Naks
 pub mod Stamps
 pub mod Words

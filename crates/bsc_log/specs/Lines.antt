@@ -1,19 +1,32 @@
 -- The text of a line.
 use Rattle.std.specs.Prelude.{ℕ, List, ◌++◌, codes, decimal}
-use Rattle.bsc_log.specs.declared.event.Event.{Event}
-use Rattle.bsc_log.specs.declared.event.Event.TheVariants.{Joined, TookOver, Refused, Denied, Ended, NoSession}
+use Rattle.bsc_log.specs.declared.log_event.LogEvent.{LogEvent}
+use Rattle.bsc_log.specs.declared.log_event.LogEvent.TheVariants.{Joined, TookOver, Refused, Denied, Ended, NoSession, Nak as Answered, NaksLeftOut}
 use Rattle.bsc_log.specs.declared.line.Line.{Line}
 use Rattle.bsc_log.specs.Fields.{connection_text, peer_text}
-use Rattle.bsc_log.specs.Words.{cause_text, refusal_text, word_of}
+use Rattle.bsc_log.specs.declared.nak.Nak.{Nak}
+use Rattle.bsc_log.specs.Words.{cause_text, code_text, refusal_text, word_of}
+
+-- what a NAK says: its error class, error code and header marker as numbers, the code's name, and the checks that have it
+abbrev pub nak_text : Nak → List ℕ
+nak_text nak =
+    codes "class " ++ (decimal nak.class ++ (codes " code " ++ (decimal nak.code ++ (codes " marker " ++ (decimal nak.marker
+    ++ (codes " " ++ code_text nak.code))))))
+
+-- how many lines were left out
+abbrev pub left_out_text : ℕ → List ℕ
+left_out_text n = codes "left out " ++ decimal n
 
 -- why something became of a link; where there is no reason, a hyphen stands
-abbrev pub reason_text : Event → List ℕ
+abbrev pub reason_text : LogEvent → List ℕ
 reason_text Joined = codes "-"
 reason_text (TookOver conn) = codes "took over connection " ++ decimal conn
 reason_text (Refused refusal) = refusal_text refusal
 reason_text Denied = codes "policy"
 reason_text (Ended cause) = cause_text cause
 reason_text NoSession = codes "no session"
+reason_text (Answered nak) = nak_text nak
+reason_text (NaksLeftOut n) = left_out_text n
 
 -- the time, what became of a link of a hub, and its number
 abbrev pub what_text : Line → List ℕ

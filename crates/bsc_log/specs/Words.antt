@@ -1,24 +1,26 @@
 -- The words for what a line tells.
-use Rattle.std.specs.Prelude.{ℕ, List, codes}
-use Rattle.bsc_log.specs.declared.event.Event.{Event}
-use Rattle.bsc_log.specs.declared.event.Event.TheVariants.{Joined, TookOver, Refused, Denied, Ended, NoSession}
-use Rattle.bsc_log.specs.declared.event.Refusal.{Refusal}
-use Rattle.bsc_log.specs.declared.event.Refusal.TheVariants.{DuplicateVmac, TableFull, Stopped}
-use Rattle.bsc_log.specs.declared.event.Cause.{Cause}
-use Rattle.bsc_log.specs.declared.event.Cause.TheVariants.{PeerClosed, PeerLeft, TextMessage, ConnectWait, Idle, OutboxFull, Replaced}
-use Rattle.bsc_log.specs.declared.event.Cause.TheVariants.{Disconnected, HubWorn, JournalFault, LinkFault, NoMemory, Spent, Other}
+use Rattle.std.specs.Prelude.{ℕ, List, codes, ◌==◌, if◌then◌else◌}
+use Rattle.bsc_log.specs.declared.log_event.LogEvent.{LogEvent}
+use Rattle.bsc_log.specs.declared.log_event.LogEvent.TheVariants.{Joined, TookOver, Refused, Denied, Ended, NoSession, Nak, NaksLeftOut}
+use Rattle.bsc_log.specs.declared.log_event.JoinRefusal.{JoinRefusal}
+use Rattle.bsc_log.specs.declared.log_event.JoinRefusal.TheVariants.{DuplicateVmac, TableFull, Stopped}
+use Rattle.bsc_log.specs.declared.log_event.Cause.{Cause}
+use Rattle.bsc_log.specs.declared.log_event.Cause.TheVariants.{PeerClosed, PeerLeft, TextMessage, ConnectWait, Idle, OutboxFull, Replaced}
+use Rattle.bsc_log.specs.declared.log_event.Cause.TheVariants.{Disconnected, HubWorn, JournalFault, LinkFault, NoMemory, Spent, Other}
 
 -- what became of a link
-abbrev pub word_of : Event → List ℕ
+abbrev pub word_of : LogEvent → List ℕ
 word_of Joined = codes "joined"
 word_of (TookOver conn) = codes "takeover"
 word_of (Refused refusal) = codes "refused"
 word_of Denied = codes "denied"
 word_of (Ended cause) = codes "ended"
 word_of NoSession = codes "unserved"
+word_of (Nak nak) = codes "nak"
+word_of (NaksLeftOut n) = codes "nak"
 
 -- why a device was refused
-abbrev pub refusal_text : Refusal → List ℕ
+abbrev pub refusal_text : JoinRefusal → List ℕ
 refusal_text DuplicateVmac = codes "duplicate vmac"
 refusal_text TableFull = codes "table full"
 refusal_text Stopped = codes "stopped"
@@ -39,3 +41,14 @@ cause_text LinkFault = codes "link fault"
 cause_text NoMemory = codes "no memory"
 cause_text Spent = codes "spent"
 cause_text Other = codes "other"
+
+-- the name of the error code of a NAK, and the checks of a Connect-Request that have it
+abbrev pub code_text : ℕ → List ℕ
+code_text code =
+    if code == 145 then codes "HEADER_ENCODING_ERROR of C5, C7b or C8" else (
+    if code == 146 then codes "HEADER_NOT_UNDERSTOOD of C9" else (
+    if code == 147 then codes "MESSAGE_INCOMPLETE of C7 or C10b" else (
+    if code == 149 then codes "PAYLOAD_EXPECTED of C10" else (
+    if code == 150 then codes "UNEXPECTED_DATA of C10c" else (
+    if code == 80 then codes "PARAMETER_OUT_OF_RANGE of C11" else (
+    if code == 151 then codes "NODE_DUPLICATE_VMAC" else codes "other"))))))

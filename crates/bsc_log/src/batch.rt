@@ -4,8 +4,8 @@ ghost use Rattle.bsc_log.specs.declared.line.Line.{Line};
 ghost use Rattle.bsc_log.specs.Batches.{AllSay, ended_text};
 
 use crate::line::Line;
+use crate::log_record::LogRecord;
 use crate::stamp::Day;
-use crate::told::Told;
 use bsc_lines::put_words;
 use bsc_octets::NoMemory;
 use std::alloc::Global;
@@ -27,7 +27,7 @@ fn put_line(text: &mut Vec<u8>, line: &Line) -> Result<(), NoMemory>
 
 /// Puts the lines that say what was told at the end of a text, in this order, with the day of the last line before. Where there
 /// is no memory for one, those before it stay.
-fn put_told(text: &mut Vec<u8>, told: &[Told], day: &mut Day) -> Result<(), NoMemory>
+fn put_told(text: &mut Vec<u8>, told: &[LogRecord], day: &mut Day) -> Result<(), NoMemory>
     ensures { IfOk result (λ _. (lines : List Line) × AllSay told.now lines × (text.new.items ≡ text.old.items ++ flat_map ended_text lines)) }
 {
     for one in told.iter() {
@@ -40,7 +40,7 @@ fn put_told(text: &mut Vec<u8>, told: &[Told], day: &mut Day) -> Result<(), NoMe
 #[derive(Drop)]
 pub(crate) struct Batch {
     /// What was told, in this order.
-    pub(crate) told: Vec<Told>,
+    pub(crate) told: Vec<LogRecord>,
     /// The day of the last line.
     day: Day,
     text: Vec<u8>,

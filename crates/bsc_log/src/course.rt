@@ -3,14 +3,14 @@ ghost use Rattle.std.specs.Prelude.{◌≡◌, None, is_some};
 ghost use Rattle.bsc_log.specs.Causes.{closed_at, peer_closed_at};
 ghost use Rattle.bsc_log.specs.Courses.{asks_to_leave, ended, heard, heard_at, hushed, hushed_at, introduced, may_join, newest, once, put, put_at, takeover, woken};
 ghost use Rattle.bsc_log.specs.Following.{told_of};
-ghost use Rattle.bsc_log.specs.declared.event.Cause.{Cause};
-ghost use Rattle.bsc_log.specs.declared.event.Event.{Event};
+ghost use Rattle.bsc_log.specs.declared.log_event.Cause.{Cause};
+ghost use Rattle.bsc_log.specs.declared.log_event.LogEvent.{LogEvent};
 ghost use Rattle.bsc_log.specs.declared.stage.Stage.{Stage};
 
 use crate::closing::{closed_at, peer_closed_at};
-use crate::event::{Cause, Event};
+use crate::log_event::{Cause, LogEvent};
+use crate::log_record::LogRecord;
 use crate::stage::Stage;
-use crate::told::Told;
 use bsc_accept::Reason;
 use bsc_octets::{Identity, function};
 use std::time::Duration;
@@ -119,10 +119,10 @@ impl Course {
     }
 
     /// What it tells where this becomes of it at this time.
-    pub(crate) fn tells(&self, since: Duration, event: Event) -> Told
+    pub(crate) fn tells(&self, since: Duration, event: LogEvent) -> LogRecord
         ensures { result ≡ told_of self.now since event }
     {
-        Told {
+        LogRecord {
             since,
             event,
             link: self.link,
@@ -181,7 +181,7 @@ impl Course {
     }
 
     /// It is this connection's from now on.
-    pub(crate) fn known_as(&mut self, conn: u64)
+    pub(crate) fn set_connection(&mut self, conn: u64)
         ensures { self.new ≡ introduced conn self.old }
     {
         self.conn = Some(conn);
@@ -189,14 +189,14 @@ impl Course {
     }
 
     /// Something is new for this other connection. What that tells: right behind its own join, that it took that one's place.
-    pub(crate) fn wake(&mut self, conn: u64) -> Option<Event>
+    pub(crate) fn wake(&mut self, conn: u64) -> Option<LogEvent>
         ensures known { self.new ≡ woken self.old }
         ensures told { result ≡ takeover self.old.stage conn }
     {
         match self.stage {
             Stage::Introduced => {
                 self.stage = Stage::Joined;
-                Some(Event::TookOver(conn))
+                Some(LogEvent::TookOver(conn))
             }
             Stage::Silent
             | Stage::Waiting
@@ -208,7 +208,7 @@ impl Course {
     }
 
     /// It has ended so, unless it had ended before.
-    fn end(&mut self, event: Event) -> Option<Event>
+    fn end(&mut self, event: LogEvent) -> Option<LogEvent>
         ensures known { self.new ≡ ended self.old }
         ensures told { result ≡ once self.old.stage event }
     {
@@ -221,15 +221,15 @@ impl Course {
     }
 
     /// A call on it failed.
-    pub(crate) fn failed(&mut self) -> Option<Event>
+    pub(crate) fn failed(&mut self) -> Option<LogEvent>
         ensures known { self.new ≡ ended self.old }
-        ensures told { result ≡ once self.old.stage (Event.Ended Cause.LinkFault) }
+        ensures told { result ≡ once self.old.stage (LogEvent.Ended Cause.LinkFault) }
     {
-        self.end(Event::Ended(Cause::LinkFault))
+        self.end(LogEvent::Ended(Cause::LinkFault))
     }
 
     /// The peer closed it; its connection was taken over, if that is known.
-    pub(crate) fn peer_closed(&mut self, is_taken: bool) -> Option<Event>
+    pub(crate) fn peer_closed(&mut self, is_taken: bool) -> Option<LogEvent>
         ensures known { self.new ≡ ended self.old }
         ensures told { result ≡ once self.old.stage (peer_closed_at self.old.stage is_taken) }
     {
@@ -242,7 +242,7 @@ impl Course {
         code: u16,
         reason: Option<Reason>,
         is_taken: bool,
-    ) -> Option<Event>
+    ) -> Option<LogEvent>
         ensures known { self.new ≡ ended self.old }
         ensures told { result ≡ once self.old.stage (closed_at self.old.stage code reason is_taken) }
     {

@@ -1,5 +1,5 @@
 //! What stands in a line.
-use crate::event::Event;
+use crate::log_event::LogEvent;
 use crate::stamp::Stamp;
 use bsc_octets::Identity;
 
@@ -9,7 +9,7 @@ pub struct Line {
     /// When it was.
     pub stamp: Stamp,
     /// What it was.
-    pub event: Event,
+    pub event: LogEvent,
     /// The number of the link among those that arrived.
     pub link: u64,
     /// Its connection, if it has joined.

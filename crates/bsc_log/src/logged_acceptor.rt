@@ -4,7 +4,7 @@ ghost use Rattle.std.proofs.Common.{refl};
 ghost use Rattle.bsc_edge.specs.Told.{Leaves};
 ghost use Rattle.bsc_log.specs.Logged.{Covers, left_by};
 
-use crate::log::Log;
+use crate::link_log::LinkLog;
 use crate::logged_link::LoggedLink;
 use crate::logging::Logging;
 use bsc_edge::{Acceptor, Arrived, Failed, LinkFault};
@@ -31,7 +31,7 @@ impl<A, R> LoggedAcceptor<A, R> {
 }
 
 /// The log of the next link, where there is a logging.
-fn next_log<R: Copy>(logging: &mut Option<Logging<R>>) -> Option<Log<R>>
+fn next_log<R: Copy>(logging: &mut Option<Logging<R>>) -> Option<LinkLog<R>>
     ensures off { logging.old ≡ None → (result ≡ None) × (logging.new ≡ None) }
     ensures on { IsSome logging.old → IsSome logging.new }
 {

@@ -3,7 +3,7 @@ ghost use Rattle.std.specs.Prelude.{IfSome};
 ghost use Rattle.bsc_log.specs.Following.{Begins};
 
 use crate::course::Course;
-use crate::log::Log;
+use crate::link_log::LinkLog;
 use crate::shared::Shared;
 use bsc_octets::NoMemory;
 use bsc_past::Past;
@@ -35,12 +35,12 @@ impl<R: Copy> Logging<R> {
     }
 
     /// The log of the next link that arrives. There is none where the share of it can't be counted.
-    pub(crate) fn next_log(&mut self) -> Option<Log<R>>
+    pub(crate) fn next_log(&mut self) -> Option<LinkLog<R>>
         ensures { IfSome result Begins }
     {
         self.arrived = self.arrived.saturating_add(1);
         match Arc::try_clone(&self.shared) {
-            Ok(shared) => Some(Log {
+            Ok(shared) => Some(LinkLog {
                 rt: self.rt,
                 shared,
                 course: Course::new(self.arrived),

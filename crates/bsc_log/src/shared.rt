@@ -1,7 +1,8 @@
 //! What the links of a hub share, where lines are told of them.
-use crate::batch::{Batch, ROOM};
+use crate::batch::Batch;
+use crate::log_record::LogRecord;
 use crate::takeovers::Takeovers;
-use crate::told::Told;
+use crate::waiting::Waiting;
 use bsc_octets::NoMemory;
 use std::alloc::Global;
 use std::io::Stderr;
@@ -22,13 +23,16 @@ const LATE_MS: u64 = 500;
 /// Where the acceptor hasn't looked for so many milliseconds, links write what they tell.
 const GONE_MS: u64 = 1_000;
 
+/// So many milliseconds are a second.
+const SECOND_MS: u64 = 1_000;
+
 /// What was told and isn't written yet, and which connections were taken over.
 pub(crate) struct Shared {
     pub(crate) takeovers: Takeovers,
     /// When the acceptor looked last, in milliseconds since 1970. It stands beside what else is met where something is told.
     looked: AtomicU64,
-    /// What waits, in the order in which it was told.
-    waiting: Mutex<Vec<Told>>,
+    /// What waits.
+    waiting: Mutex<Waiting>,
     /// Where it is written. Who has this lock takes what waits: so batches are written in the order of the records.
     batch: Mutex<Batch>,
 }
@@ -40,7 +44,7 @@ fn millis_of(since: Duration) -> u64 {
 
 /// Whether these, which wait, are to be written at a look of the acceptor's at this time: where there are many, where the first
 /// has waited long, and where no link has come, so that there is time.
-fn is_due(waiting: &[Told], now: u64, has_come: bool) -> bool {
+fn is_due(waiting: &[LogRecord], now: u64, has_come: bool) -> bool {
     match waiting {
         [] => false,
         [first, ..] => {
@@ -55,22 +59,22 @@ impl Shared {
         Ok(Shared {
             takeovers: Takeovers::new(alloc)?,
             looked: AtomicU64::new(0),
-            waiting: Mutex::new(Vec::with_capacity(alloc, ROOM)?),
+            waiting: Mutex::new(Waiting::new(alloc)?),
             batch: Mutex::new(Batch::new(alloc, stderr)?),
         })
     }
 
     /// Has this wait, and says whether it is full then.
-    fn push<R: Wait>(&self, rt: &R, told: Told) -> bool {
+    fn push<R: Wait>(&self, rt: &R, told: LogRecord) -> bool {
         let mut waiting = self.waiting.lock(rt);
-        let _ = waiting.push(told);
-        waiting.len() >= FULL
+        waiting.add(told, told.since.as_secs());
+        waiting.told.len() >= FULL
     }
 
     /// Takes what waits, in exchange for these.
-    fn exchange<R: Wait>(&self, rt: &R, told: &mut Vec<Told>) {
+    fn exchange<R: Wait>(&self, rt: &R, told: &mut Vec<LogRecord>) {
         let mut waiting = self.waiting.lock(rt);
-        mem::swap(&mut *waiting, told);
+        mem::swap(&mut waiting.told, told);
     }
 
     /// Writes what waits.
@@ -83,13 +87,14 @@ impl Shared {
 
     /// Whether what waits is to be written at a look of the acceptor's at this time.
     fn owes<R: Wait>(&self, rt: &R, now: u64, has_come: bool) -> bool {
-        let waiting = self.waiting.lock(rt);
-        is_due(waiting.as_slice(), now, has_come)
+        let mut waiting = self.waiting.lock(rt);
+        waiting.settle(now / SECOND_MS);
+        is_due(waiting.told.as_slice(), now, has_come)
     }
 
     /// A link tells this. It is written by the acceptor's next looks; where that is gone, and where too much waits, it is written
     /// at once.
-    pub(crate) fn tell<R: Wait>(&self, rt: &R, told: Told) {
+    pub(crate) fn tell<R: Wait>(&self, rt: &R, told: LogRecord) {
         let now = millis_of(told.since);
         let is_full = self.push(rt, told);
         let looked = self.looked.load(Ordering::SeqCst);
@@ -117,7 +122,7 @@ impl Drop for Shared {
             batch,
         } = self;
         let mut batch = batch.into_inner();
-        batch.told = waiting.into_inner();
+        batch.told = waiting.into_inner().into_told();
         batch.write();
     }
 }

@@ -1,34 +1,37 @@
 //! The words for what a line tells.
 ghost use Rattle.std.specs.Prelude.{◌≡◌};
-ghost use Rattle.bsc_log.specs.Words.{cause_text, refusal_text, word_of};
+ghost use Rattle.bsc_log.specs.Words.{cause_text, code_text, refusal_text, word_of};
 
-use crate::event::{Cause, Event, Refusal};
+use crate::log_event::{Cause, JoinRefusal, LogEvent};
+use crate::nak::Nak;
+use bsc_octets::results;
 
-impl Event {
+impl LogEvent {
     /// The word for what became of a link.
     pub fn word(self) -> &'static str
         ensures { result.now ≡ word_of self }
     {
         match self {
-            Event::Joined => "joined",
-            Event::TookOver(_) => "takeover",
-            Event::Refused(_) => "refused",
-            Event::Denied => "denied",
-            Event::Ended(_) => "ended",
-            Event::NoSession => "unserved",
+            LogEvent::Joined => "joined",
+            LogEvent::TookOver(_) => "takeover",
+            LogEvent::Refused(_) => "refused",
+            LogEvent::Denied => "denied",
+            LogEvent::Ended(_) => "ended",
+            LogEvent::NoSession => "unserved",
+            LogEvent::Nak(_) | LogEvent::NaksLeftOut(_) => "nak",
         }
     }
 }
 
-impl Refusal {
+impl JoinRefusal {
     /// Why a device was refused.
     pub fn text(self) -> &'static str
         ensures { result.now ≡ refusal_text self }
     {
         match self {
-            Refusal::DuplicateVmac => "duplicate vmac",
-            Refusal::TableFull => "table full",
-            Refusal::Stopped => "stopped",
+            JoinRefusal::DuplicateVmac => "duplicate vmac",
+            JoinRefusal::TableFull => "table full",
+            JoinRefusal::Stopped => "stopped",
         }
     }
 }
@@ -53,6 +56,24 @@ impl Cause {
             Cause::NoMemory => "no memory",
             Cause::Spent => "spent",
             Cause::Other => "other",
+        }
+    }
+}
+
+impl Nak {
+    /// The name of its error code, and which checks of a Connect-Request have it.
+    pub fn text(self) -> &'static str
+        ensures { result.now ≡ code_text self.code }
+    {
+        match self.code {
+            results::HEADER_ENCODING_ERROR => "HEADER_ENCODING_ERROR of C5, C7b or C8",
+            results::HEADER_NOT_UNDERSTOOD => "HEADER_NOT_UNDERSTOOD of C9",
+            results::MESSAGE_INCOMPLETE => "MESSAGE_INCOMPLETE of C7 or C10b",
+            results::PAYLOAD_EXPECTED => "PAYLOAD_EXPECTED of C10",
+            results::UNEXPECTED_DATA => "UNEXPECTED_DATA of C10c",
+            results::PARAMETER_OUT_OF_RANGE => "PARAMETER_OUT_OF_RANGE of C11",
+            results::NODE_DUPLICATE_VMAC => "NODE_DUPLICATE_VMAC",
+            _ => "other",
         }
     }
 }

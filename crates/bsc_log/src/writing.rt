@@ -1,24 +1,45 @@
 //! The text of a line.
 ghost use Rattle.std.specs.Prelude.{◌≡◌, ◌++◌, IfOk};
-ghost use Rattle.bsc_log.specs.Lines.{line_text, reason_text, what_text, whose_text, why_text};
+ghost use Rattle.bsc_log.specs.Lines.{left_out_text, line_text, nak_text, reason_text, what_text, whose_text, why_text};
 
-use crate::event::Event;
 use crate::fields::{put_connection, put_field, put_peer};
 use crate::line::Line;
+use crate::log_event::LogEvent;
+use crate::nak::Nak;
 use bsc_lines::put_words;
 use bsc_octets::NoMemory;
 
+/// Puts what a NAK says.
+fn put_nak(text: &mut Vec<u8>, nak: Nak) -> Result<(), NoMemory>
+    ensures { IfOk result (λ _. text.new.items ≡ text.old.items ++ nak_text nak) }
+{
+    put_field(text, "class ", nak.class as u64)?;
+    put_field(text, " code ", nak.code as u64)?;
+    put_field(text, " marker ", nak.marker as u64)?;
+    put_words(text, " ")?;
+    put_words(text, nak.text())
+}
+
+/// Puts how many lines were left out.
+fn put_left_out(text: &mut Vec<u8>, n: u64) -> Result<(), NoMemory>
+    ensures { IfOk result (λ _. text.new.items ≡ text.old.items ++ left_out_text n) }
+{
+    put_field(text, "left out ", n)
+}
+
 /// Puts why something became of a link.
-fn put_reason(text: &mut Vec<u8>, event: Event) -> Result<(), NoMemory>
+fn put_reason(text: &mut Vec<u8>, event: LogEvent) -> Result<(), NoMemory>
     ensures { IfOk result (λ _. text.new.items ≡ text.old.items ++ reason_text event) }
 {
     match event {
-        Event::Joined => put_words(text, "-"),
-        Event::TookOver(conn) => put_field(text, "took over connection ", conn),
-        Event::Refused(refusal) => put_words(text, refusal.text()),
-        Event::Denied => put_words(text, "policy"),
-        Event::Ended(cause) => put_words(text, cause.text()),
-        Event::NoSession => put_words(text, "no session"),
+        LogEvent::Joined => put_words(text, "-"),
+        LogEvent::TookOver(conn) => put_field(text, "took over connection ", conn),
+        LogEvent::Refused(refusal) => put_words(text, refusal.text()),
+        LogEvent::Denied => put_words(text, "policy"),
+        LogEvent::Ended(cause) => put_words(text, cause.text()),
+        LogEvent::NoSession => put_words(text, "no session"),
+        LogEvent::Nak(nak) => put_nak(text, nak),
+        LogEvent::NaksLeftOut(n) => put_left_out(text, n),
     }
 }
 

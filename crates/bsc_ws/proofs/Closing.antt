@@ -1,4 +1,5 @@
 -- What a closing that failed left, by what the socket answered.
+-- It serves the clauses of `close`.
 use Rattle.std.proofs.Common.{inl, inr, ◌≡◌, ℕ, List, [], ◌∷◌, ◌++◌, Option, Result, Err, refl, sym, subst}
 use Rattle.bsc_edge.specs.declared.fault.LinkFault.{LinkFault}
 use Rattle.bsc_ws.specs.Sending.{FaultOf, Unclosed}

@@ -1,4 +1,5 @@
 -- What a head names once a sub-protocol was put into it.
+-- It serves the clauses of `answered` and `offer`.
 use Rattle.std.proofs.Common.{◌≡◌, ℕ, List, codes}
 use Rattle.bsc_edge.specs.declared.kind.Kind.{Kind}
 use Rattle.http_header.specs.FieldValue.{FieldValue, plain_value}

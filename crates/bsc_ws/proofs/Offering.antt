@@ -1,4 +1,5 @@
 -- Where a text between commas is looked at from its front.
+-- It serves the clauses of `asks_for` and `offers`.
 use Rattle.std.proofs.Common.{◌≡◌, inl, inr, ℕ, List, [], ◌∷◌, ◌++◌, refl, sym, ap, ◌∙◌, append-nil, append_assoc}
 use Rattle.std.specs.Str.{IsTrimAscii}
 use Rattle.bsc_ws.specs.Protocols.{Offers, StartsPart}

@@ -7,7 +7,7 @@ ghost use Rattle.tungstenite.specs.Socket.{IsFresh};
 ghost use Rattle.websocket.specs.declared.protocol.config.Role.TheVariants as Role;
 
 use crate::bounds::limits;
-use crate::handshake::{Handshake, Step};
+use crate::handshake::{Handshake, HandshakeStep};
 use crate::head::Head;
 use crate::kinds::OfKind;
 use crate::protocol::Takes;
@@ -68,13 +68,13 @@ fn next<T: Read + Write + Drop, P: OfKind + Drop>(
 }
 
 /// What a handshake comes to that wasn't gone on with for this.
-fn failed<T: Read + Write + Drop>(fault: LinkFault) -> Step<T>
+fn failed<T: Read + Write + Drop>(fault: LinkFault) -> HandshakeStep<T>
     ensures more { IfMore result (λ _. ⊥) }
     ensures done { IfDone result (λ _. ⊥) }
 {
     match fault {
-        LinkFault::NoMemory => Step::NoMemory,
-        LinkFault::Failed => Step::Refused,
+        LinkFault::NoMemory => HandshakeStep::NoMemory,
+        LinkFault::Failed => HandshakeStep::Refused,
     }
 }
 
@@ -88,7 +88,7 @@ impl<T: Read + Write + Drop> Handshake<T> {
     }
 
     /// Goes on until it is done or the stream would block.
-    pub fn go_on(self) -> Step<T>
+    pub fn go_on(self) -> HandshakeStep<T>
         // It takes links of the kind that it was begun for, however often it goes on.
         ensures more { IfMore result (λ h. kind_of h.rounds ≡ kind_of self.rounds) }
         ensures kind { IfDone result (λ kind. kind ≡ kind_of self.rounds) }
@@ -98,15 +98,15 @@ impl<T: Read + Write + Drop> Handshake<T> {
         let Handshake { rounds } = self;
         match rounds {
             Rounds::Hub(rounds) => match next(rounds) {
-                Ok(Ok(stream)) => Step::Done(stream, Kind::Hub),
-                Ok(Err(rounds)) => Step::More(Handshake {
+                Ok(Ok(stream)) => HandshakeStep::Done(stream, Kind::Hub),
+                Ok(Err(rounds)) => HandshakeStep::More(Handshake {
                     rounds: Rounds::Hub(rounds),
                 }),
                 Err(fault) => failed(fault),
             },
             Rounds::Direct(rounds) => match next(rounds) {
-                Ok(Ok(stream)) => Step::Done(stream, Kind::Direct),
-                Ok(Err(rounds)) => Step::More(Handshake {
+                Ok(Ok(stream)) => HandshakeStep::Done(stream, Kind::Direct),
+                Ok(Err(rounds)) => HandshakeStep::More(Handshake {
                     rounds: Rounds::Direct(rounds),
                 }),
                 Err(fault) => failed(fault),
@@ -157,9 +157,9 @@ pub fn accept<T: Read + Write + Drop, W: Patience + Drop, K: MaskKeys + Drop>(
     ensures quiets { IfOk result (λ l. l.quiets ≡ 0) }
 {
     match begin(alloc, stream, kind).go_on() {
-        Step::Done(stream, kind) => Ok(settle(alloc, stream, wait, keys, kind)),
-        Step::NoMemory => Err(LinkFault::NoMemory),
-        Step::More(_) => Err(LinkFault::Failed),
-        Step::Refused => Err(LinkFault::Failed),
+        HandshakeStep::Done(stream, kind) => Ok(settle(alloc, stream, wait, keys, kind)),
+        HandshakeStep::NoMemory => Err(LinkFault::NoMemory),
+        HandshakeStep::More(_) => Err(LinkFault::Failed),
+        HandshakeStep::Refused => Err(LinkFault::Failed),
     }
 }

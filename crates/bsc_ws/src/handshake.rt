@@ -11,7 +11,7 @@ pub struct Handshake<T: Read + Write + Drop> {
 
 /// What going on with a handshake comes to.
 #[derive(Drop)]
-pub enum Step<T: Read + Write + Drop> {
+pub enum HandshakeStep<T: Read + Write + Drop> {
     /// The stream would block.
     More(Handshake<T>),
     /// It is done: this is its stream, and a link of this kind was asked for and is taken.

@@ -1,5 +1,5 @@
 //! The text of a line.
-use bsc_log::{Cause, Event, Line, Refusal, stamp_of};
+use bsc_log::{Cause, JoinRefusal, Line, LogEvent, Nak, stamp_of};
 use bsc_octets::{NoMemory, read_identity};
 use std::process::Abort;
 use std::test::*;
@@ -34,62 +34,91 @@ const WHO: [u8; 26] = [
 ];
 
 /// What a line tells, whether its link has joined, and what stands behind its link's number.
-const LINES: [(Event, Option<u64>, bool, &str, &str); 8] = [
+const LINES: [(LogEvent, Option<u64>, bool, &str, &str); 11] = [
     (
-        Event::Joined,
+        LogEvent::Joined,
         Some(12),
         true,
         "joined",
         "connection 12 vmac 0200ABCDEF09 device 01234567-89ab-cdef-0123-456789abcdef received 1 sent 20 cause -",
     ),
     (
-        Event::TookOver(7),
+        LogEvent::TookOver(7),
         Some(12),
         true,
         "takeover",
         "connection 12 vmac 0200ABCDEF09 device 01234567-89ab-cdef-0123-456789abcdef received 1 sent 20 cause took over connection 7",
     ),
     (
-        Event::Refused(Refusal::DuplicateVmac),
+        LogEvent::Refused(JoinRefusal::DuplicateVmac),
         None,
         true,
         "refused",
         "connection - vmac 0200ABCDEF09 device 01234567-89ab-cdef-0123-456789abcdef received 1 sent 20 cause duplicate vmac",
     ),
     (
-        Event::Refused(Refusal::TableFull),
+        LogEvent::Refused(JoinRefusal::TableFull),
         None,
         true,
         "refused",
         "connection - vmac 0200ABCDEF09 device 01234567-89ab-cdef-0123-456789abcdef received 1 sent 20 cause table full",
     ),
     (
-        Event::Denied,
+        LogEvent::Denied,
         None,
         true,
         "denied",
         "connection - vmac 0200ABCDEF09 device 01234567-89ab-cdef-0123-456789abcdef received 1 sent 20 cause policy",
     ),
     (
-        Event::Ended(Cause::PeerLeft),
+        LogEvent::Ended(Cause::PeerLeft),
         Some(18_446_744_073_709_551_615),
         true,
         "ended",
         "connection 18446744073709551615 vmac 0200ABCDEF09 device 01234567-89ab-cdef-0123-456789abcdef received 1 sent 20 cause peer left",
     ),
     (
-        Event::Ended(Cause::ConnectWait),
+        LogEvent::Ended(Cause::ConnectWait),
         None,
         false,
         "ended",
         "connection - vmac - device - received 1 sent 20 cause connect wait",
     ),
     (
-        Event::NoSession,
+        LogEvent::NoSession,
         None,
         false,
         "unserved",
         "connection - vmac - device - received 1 sent 20 cause no session",
+    ),
+    (
+        LogEvent::Nak(Nak {
+            marker: 0x42,
+            class: 7,
+            code: 146,
+        }),
+        None,
+        false,
+        "nak",
+        "connection - vmac - device - received 1 sent 20 cause class 7 code 146 marker 66 HEADER_NOT_UNDERSTOOD of C9",
+    ),
+    (
+        LogEvent::Nak(Nak {
+            marker: 0,
+            class: 65_535,
+            code: 65_535,
+        }),
+        None,
+        true,
+        "nak",
+        "connection - vmac 0200ABCDEF09 device 01234567-89ab-cdef-0123-456789abcdef received 1 sent 20 cause class 65535 code 65535 marker 0 other",
+    ),
+    (
+        LogEvent::NaksLeftOut(37),
+        None,
+        true,
+        "nak",
+        "connection - vmac 0200ABCDEF09 device 01234567-89ab-cdef-0123-456789abcdef received 1 sent 20 cause left out 37",
     ),
 ];
 

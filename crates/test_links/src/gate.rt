@@ -1,7 +1,7 @@
 //! A gate, a stream that says nothing, and dialers of both kinds; and a Stop that ends a wait.
 use bsc_edge::{Acceptor, Arrived, Dialer, Incoming, Kind, Link, LinkFault};
-use bsc_gate::{Gate, SocketLink, SocketOpener};
-use bsc_live::{Bells, Moment};
+use bsc_gate::{HandshakeAcceptor, SocketLink, SocketOpener};
+use bsc_live::{Moment, Wakers};
 use bsc_octets::Vmac;
 use bsc_ws::StreamDialer;
 use mio::net::TcpStream;
@@ -29,9 +29,9 @@ fn message<L: Link>(alloc: Global, link: &mut L) -> Option<Vec<u8>> {
 #[test]
 fn a_dialer_meets_a_gate(rt: HostRuntime) -> Result<(), Fail> {
     let alloc = rt.alloc();
-    let bells = Arc::new(alloc, Bells::new(alloc)?)?;
+    let bells = Arc::new(alloc, Wakers::new(alloc)?)?;
     let others = Arc::try_clone(&bells)?;
-    let mut gate = Gate::new(rt, alloc, Ipv4Addr::LOCALHOST, Kind::Hub, bells, 8)?;
+    let mut gate = HandshakeAcceptor::new(rt, alloc, Ipv4Addr::LOCALHOST, Kind::Hub, bells, 8)?;
     assert!(rt; gate.bind(0, Vmac([0; 6])).is_ok());
     let port = match gate.address() {
         Some(address) => address.port(),
@@ -101,9 +101,9 @@ fn comes_back<R: Clock, L: Link>(rt: &R, alloc: Global, link: &mut L) -> bool {
 #[test]
 fn a_stop_and_a_wake_end_waits(rt: HostRuntime) -> Result<(), Fail> {
     let alloc = rt.alloc();
-    let bells = Arc::new(alloc, Bells::new(alloc)?)?;
+    let bells = Arc::new(alloc, Wakers::new(alloc)?)?;
     let others = Arc::try_clone(&bells)?;
-    let mut gate = Gate::new(rt, alloc, Ipv4Addr::LOCALHOST, Kind::Hub, bells, 8)?;
+    let mut gate = HandshakeAcceptor::new(rt, alloc, Ipv4Addr::LOCALHOST, Kind::Hub, bells, 8)?;
     assert!(rt; gate.bind(0, Vmac([0; 6])).is_ok());
     let port = match gate.address() {
         Some(address) => address.port(),
@@ -111,7 +111,7 @@ fn a_stop_and_a_wake_end_waits(rt: HostRuntime) -> Result<(), Fail> {
     };
     let (served, dialled) = thread::join(
         &rt,
-        move || -> Option<(Gate<HostRuntime>, SocketLink<HostRuntime>)> {
+        move || -> Option<(HandshakeAcceptor<HostRuntime>, SocketLink<HostRuntime>)> {
             for _ in 0..200u32 {
                 if let Ok(Arrived::Link(link)) = gate.next(alloc, 50) {
                     return Some((gate, link));
@@ -133,14 +133,14 @@ fn a_stop_and_a_wake_end_waits(rt: HostRuntime) -> Result<(), Fail> {
     let (Some((mut gate, mut link)), Some(mut dialled)) = (served, dialled) else {
         panic!(rt; "a link comes");
     };
-    link.known_as(7);
+    link.set_connection(7);
     let ((stopped, mut link), gate) = thread::join(
         &rt,
         move || -> (bool, SocketLink<HostRuntime>) {
             let back = comes_back(&rt, alloc, &mut link);
             (back, link)
         },
-        move || -> Gate<HostRuntime> {
+        move || -> HandshakeAcceptor<HostRuntime> {
             // Most often the link sleeps by then; where it doesn't, the ring is kept.
             thread::sleep(&rt, Duration::from_millis(50));
             gate.wake_all(0);
@@ -167,16 +167,16 @@ fn a_stop_and_a_wake_end_waits(rt: HostRuntime) -> Result<(), Fail> {
 #[test]
 fn listens_at_its_port(rt: HostRuntime) -> Result<(), Fail> {
     let alloc = rt.alloc();
-    let bells = Arc::new(alloc, Bells::new(alloc)?)?;
+    let bells = Arc::new(alloc, Wakers::new(alloc)?)?;
     let others = Arc::try_clone(&bells)?;
-    let mut first = Gate::new(rt, alloc, Ipv4Addr::LOCALHOST, Kind::Hub, bells, 1)?;
+    let mut first = HandshakeAcceptor::new(rt, alloc, Ipv4Addr::LOCALHOST, Kind::Hub, bells, 1)?;
     assert!(rt; first.bind(0, Vmac([0; 6])).is_ok());
     let free = match first.address() {
         Some(address) => address.port(),
         None => 0,
     };
     drop(first);
-    let mut second = Gate::new(rt, alloc, Ipv4Addr::LOCALHOST, Kind::Hub, others, 1)?;
+    let mut second = HandshakeAcceptor::new(rt, alloc, Ipv4Addr::LOCALHOST, Kind::Hub, others, 1)?;
     assert!(rt; second.bind(free, Vmac([0; 6])).is_ok());
     let port = match second.address() {
         Some(address) => address.port(),

@@ -1,6 +1,6 @@
 //! Rings before a sleep, octets beside rings, and a write that its peer doesn't take.
 use bsc_edge::Patience;
-use bsc_live::{Bells, LivePatience, LiveStream, Moment};
+use bsc_live::{LivePatience, LiveStream, Moment, Wakers};
 use mio::net::TcpStream;
 use std::io::{self, ErrorKind, Read, Write};
 use std::net::{self, Ipv4Addr, SocketAddr, TcpListener};
@@ -47,9 +47,9 @@ fn a_ring_before_the_sleep_is_kept(rt: HostRuntime) -> Result<(), Fail> {
     let (near, mut far) = ends(&rt)?;
     let mut stream = LiveStream::over(rt, alloc, near, 50)?;
     let bell = stream.bell()?;
-    let bells = Arc::new(alloc, Bells::new(alloc)?)?;
+    let bells = Arc::new(alloc, Wakers::new(alloc)?)?;
     let mut patience = LivePatience::new(rt, stream.bell()?, bells);
-    patience.known_as(7);
+    patience.set_connection(7);
     assert_eq!(rt; patience.set(600_000), Ok(()));
     patience.wake(8);
     patience.wake(7);

@@ -1,7 +1,7 @@
 //! What a stream is told of its socket, and whom its link tells.
 use crate::live::{ends, received};
 use bsc_edge::Patience;
-use bsc_live::{Bells, Debts, LivePatience, LiveStream};
+use bsc_live::{DeferredWakes, LivePatience, LiveStream, Wakers};
 use std::io::{ErrorKind, Write};
 use std::net::Shutdown;
 use std::sync::Arc;
@@ -75,9 +75,9 @@ fn a_ring_ends_a_sleep(rt: HostRuntime) -> Result<(), Fail> {
         Rung::AtTheEighthWait,
         Rung::AsDropped,
     ] {
-        let bells = Arc::new(alloc, Bells::new(alloc)?)?;
+        let bells = Arc::new(alloc, Wakers::new(alloc)?)?;
         let (near, _far) = ends(&rt)?;
-        let debts = Arc::new(alloc, Debts::new(alloc))?;
+        let debts = Arc::new(alloc, DeferredWakes::new(alloc))?;
         let mut from = LiveStream::over(rt, alloc, near, 50)?.ringing(&debts)?;
         let sender = LivePatience::new(rt, from.bell()?, Arc::try_clone(&bells)?);
         let mut sender = sender.owing(debts);
@@ -85,8 +85,8 @@ fn a_ring_ends_a_sleep(rt: HostRuntime) -> Result<(), Fail> {
         let mut to = LiveStream::over(rt, alloc, near, 50)?;
         let bell = to.bell()?;
         let mut receiver = LivePatience::new(rt, to.bell()?, Arc::try_clone(&bells)?);
-        sender.known_as(3);
-        receiver.known_as(7);
+        sender.set_connection(3);
+        receiver.set_connection(7);
         assert_eq!(rt; receiver.set(600_000), Ok(()));
         let (comes_back, _left) = thread::join(
             &rt,

@@ -1,7 +1,7 @@
 //! One wait for a gate and for a link, over loopback.
 use bsc_edge::{Acceptor, Arrived, Incoming, Kind, Link, Waiter};
-use bsc_gate::{Gate, SocketLink};
-use bsc_live::{Bells, Moment, Watcher};
+use bsc_gate::{HandshakeAcceptor, SocketLink};
+use bsc_live::{Moment, Seat, SeatWaker, Wakers, Watcher};
 use bsc_octets::Vmac;
 use std::alloc::Global;
 use std::io::Write;
@@ -9,7 +9,8 @@ use std::net::{Ipv4Addr, Net, SocketAddr, TcpStream};
 use std::random::RandomSource;
 use std::sync::{Arc, Wait};
 use std::test::*;
-use std::time::Clock;
+use std::thread;
+use std::time::{Clock, Duration};
 
 /// A handshake with the key that the standard has for an example (RFC 6455, 1.3).
 const HANDSHAKE: &str = concat!(
@@ -23,7 +24,7 @@ const HANDSHAKE: &str = concat!(
 fn comes<R: Clock + Net + Wait + RandomSource + Copy + Drop>(
     alloc: Global,
     watcher: &mut Watcher<R>,
-    gate: &mut Gate<R>,
+    gate: &mut HandshakeAcceptor<R>,
     link: &mut Option<SocketLink<R>>,
     most_ms: u32,
 ) -> Option<u8> {
@@ -60,7 +61,7 @@ fn meet<R: Clock + Net + Wait + RandomSource + Copy + Drop>(
     rt: R,
     alloc: Global,
     watcher: &mut Watcher<R>,
-    gate: &mut Gate<R>,
+    gate: &mut HandshakeAcceptor<R>,
     link: &mut Option<SocketLink<R>>,
     port: u16,
 ) -> Option<Scene> {
@@ -106,8 +107,8 @@ fn meet<R: Clock + Net + Wait + RandomSource + Copy + Drop>(
 fn a_wait_ends_when_something_comes(rt: HostRuntime) -> Result<(), Fail> {
     let alloc = rt.alloc();
     let mut watcher = Watcher::new(rt, alloc, 4)?;
-    let bells = Arc::new(alloc, Bells::new(alloc)?)?;
-    let gate = Gate::new(rt, alloc, Ipv4Addr::LOCALHOST, Kind::Direct, bells, 8)?;
+    let bells = Arc::new(alloc, Wakers::new(alloc)?)?;
+    let gate = HandshakeAcceptor::new(rt, alloc, Ipv4Addr::LOCALHOST, Kind::Direct, bells, 8)?;
     let mut gate = gate.watched_by(watcher.watch()?)?;
     let mut link = None;
     assert!(rt; gate.bind(0, Vmac([0; 6])).is_ok());
@@ -130,5 +131,35 @@ fn a_wait_ends_when_something_comes(rt: HostRuntime) -> Result<(), Fail> {
     assert!(rt; heard < 9_000_000);
     assert!(rt; 90_000 < rested);
     assert!(rt; closed < 9_000_000);
+    Ok(())
+}
+
+/// A wake from another thread ends a wait of ten seconds at once. Where none comes behind it, a wait lasts its time.
+#[test]
+fn a_wake_ends_a_wait(rt: HostRuntime) -> Result<(), Fail> {
+    let mut watcher = Watcher::new(rt, rt.alloc(), 2)?;
+    let (seat, waker) = Seat::with_waker(&watcher.watch()?)?;
+    seat.set_hot(false);
+    let begun = Moment::now(&rt)?;
+    let (mut watcher, _waker) = thread::join(
+        &rt,
+        move || -> Watcher<HostRuntime> {
+            watcher.wait(10_000);
+            watcher
+        },
+        move || -> SeatWaker {
+            // Most often the other one sleeps by then; where it doesn't, its wait takes no time.
+            thread::sleep(&rt, Duration::from_millis(20));
+            waker.wake();
+            waker
+        },
+    );
+    let woken = Moment::now(&rt)?;
+    assert!(rt; seat.is_hot());
+    assert!(rt; woken.left(begun) < 9_000_000);
+    seat.set_hot(false);
+    watcher.wait(50);
+    assert!(rt; !seat.is_hot());
+    assert!(rt; 45_000 < Moment::now(&rt)?.left(woken));
     Ok(())
 }

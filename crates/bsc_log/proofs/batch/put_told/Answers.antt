@@ -1,5 +1,5 @@
 use Rattle.std.proofs.Common.{◌≡◌, ◌≤◌, [], ◌∷◌, ◌++◌, length, arith, sym, append-nil}
-use Rattle.bsc_log.specs.declared.told.Told.{Told}
+use Rattle.bsc_log.specs.declared.log_record.LogRecord.{LogRecord}
 use Rattle.bsc_log.specs.declared.line.Line.{Line}
 use Rattle.bsc_log.specs.Batches.{Says}
 use Rattle.bsc_log.proofs.Batches.{said_all, said_more, text_more}

@@ -25,5 +25,10 @@ returns c =
     let dated = c.push_str-2.new.self.bytes in
     let date = c.push_str.ensures.bytes ∙ ap (λ (l : List ℕ). before ++ l) (c.as_str.ensures.value ∙ day.shows) in
     let timed = c.push_str-3.ensures.bytes ∙ ap (λ (l : List ℕ). dated ++ l)
-    (c.as_str-2.ensures.value ∙ c.time_text-time.ensures ∙ ap (λ (p : Option ℕ). time_text p time) places) in
-    (at, civil, stamped (date_text day.date) (time_text (Some 3) time) before c.push_str.new.self.bytes dated c.push_str-3.new.self.bytes c.push_str-4.new.self.bytes c.new-stamp.ensures date c.push_str-2.ensures.bytes timed c.push_str-4.ensures.bytes)
+    (c.as_str-2.ensures.value ∙ c.time_text-time.ensures ∙ ap (λ (p : Option ℕ). time_text p time) places) in (
+      at,
+      civil,
+      stamped (date_text day.date)
+          (time_text (Some 3) time) before c.push_str.new.self.bytes dated c.push_str-3.new.self.bytes c.push_str-4.new.self.bytes c.new-stamp.ensures date c.push_str-2.ensures.bytes timed
+          c.push_str-4.ensures.bytes,
+    )

@@ -1,8 +1,9 @@
 //! What a line tells of a link.
+use crate::nak::Nak;
 
 /// Why a hub refused a device that asked to join.
 #[derive(Clone, Copy, Debug, PartialEq, Eq)]
-pub enum Refusal {
+pub enum JoinRefusal {
     /// Its VMAC is held, or is the hub's own.
     DuplicateVmac,
     /// The hub's rows are taken.
@@ -46,17 +47,21 @@ pub enum Cause {
 
 /// What a line tells of a link.
 #[derive(Clone, Copy, Debug, PartialEq, Eq)]
-pub enum Event {
+pub enum LogEvent {
     /// It joined, as a connection.
     Joined,
     /// Its connection took the place of this one, which is of the same device.
     TookOver(u64),
     /// The hub refused it.
-    Refused(Refusal),
+    Refused(JoinRefusal),
     /// The policy doesn't admit its device.
     Denied,
     /// It ended.
     Ended(Cause),
     /// It got no session.
     NoSession,
+    /// The hub answered its Connect-Request with this NAK.
+    Nak(Nak),
+    /// So many such NAKs had no line.
+    NaksLeftOut(u64),
 }

@@ -1,5 +1,5 @@
 use Rattle.std.proofs.Common.{◌≡◌}
-use Rattle.bsc_gate.proofs.gate.Gate.take_streams.Given as goal
+use Rattle.bsc_gate.proofs.handshake_acceptor.HandshakeAcceptor.wait_for.Given as goal
 
 -- The counts, the port and the kind are those of the call.
 abbrev pub invariant-loop : goal.invariant-loop

@@ -1,8 +1,8 @@
 use Rattle.std.proofs.Common.{◌≡◌}
-use Rattle.bsc_gate.proofs.gate.Gate.wait_for.Given as goal
+use Rattle.bsc_gate.proofs.handshake_acceptor.HandshakeAcceptor.drive_all.Given as goal
 
 -- The counts, the port and the kind are those of the call.
-abbrev pub invariant-loop : goal.invariant-loop
-invariant-loop g l =
+abbrev pub invariant-loop-token : goal.invariant-loop-token
+invariant-loop-token g l =
     (l.self.faults ≡ l.fn.self.faults) × (l.self.quiets ≡ l.fn.self.quiets) × (l.self.bound ≡ l.fn.self.bound)
     × (l.self.kind ≡ l.fn.self.kind)

@@ -3,19 +3,19 @@ ghost use Rattle.std.specs.Prelude.{◌≡◌};
 ghost use Rattle.std.specs.Duration.{as_nanos};
 ghost use Rattle.bsc_log.specs.Stamps.{IsStampOf};
 
-use crate::event::Event;
 use crate::line::Line;
+use crate::log_event::LogEvent;
 use crate::stamp::Day;
 use bsc_octets::Identity;
 use std::time::Duration;
 
 /// What a link tells: what stands in a line, and its time as the clock gave it.
 #[derive(Clone, Copy)]
-pub(crate) struct Told {
+pub(crate) struct LogRecord {
     /// When it was, since 1970.
     pub(crate) since: Duration,
     /// What it was.
-    pub(crate) event: Event,
+    pub(crate) event: LogEvent,
     /// The number of the link among those that arrived.
     pub(crate) link: u64,
     /// Its connection, if it has joined.
@@ -28,7 +28,7 @@ pub(crate) struct Told {
     pub(crate) sent: u64,
 }
 
-impl Told {
+impl LogRecord {
     /// The line that says it, with the day that its stamp was made of last.
     pub(crate) fn line(&self, day: &mut Day) -> Line
         ensures stamp { IsStampOf (as_nanos self.now.since) result.stamp.bytes }

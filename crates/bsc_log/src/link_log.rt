@@ -1,5 +1,5 @@
 //! What is told of one link.
-ghost use Rattle.std.specs.Prelude.{ℕ, None, Bool, Ok};
+ghost use Rattle.std.specs.Prelude.{◌≡◌, ℕ, None, Bool, Ok};
 ghost use Rattle.bsc_edge.specs.Told.{fault_in};
 ghost use Rattle.bsc_edge.specs.declared.incoming.Incoming.{Incoming as IncomingType};
 ghost use Rattle.bsc_edge.specs.declared.notice.Notice.{Notice};
@@ -7,15 +7,17 @@ ghost use Rattle.bsc_edge.specs.declared.said.Said.{Said};
 ghost use Rattle.bsc_log.specs.Causes.{peer_closed_at};
 ghost use Rattle.bsc_log.specs.Courses.{hushed};
 ghost use Rattle.bsc_log.specs.Following.{Ends, GoesOn, Hears, Heeds, IsAsker};
-ghost use Rattle.bsc_log.specs.declared.event.Event.{Event as EventType};
-ghost use Rattle.bsc_log.specs.declared.event.Cause.{Cause as CauseType};
+ghost use Rattle.bsc_log.specs.Naks.{IsTold, nak_event};
+ghost use Rattle.bsc_log.specs.declared.log_event.LogEvent.{LogEvent as EventType};
+ghost use Rattle.bsc_log.specs.declared.log_event.Cause.{Cause as CauseType};
 
 use crate::asking::asker_in;
 use crate::course::Course;
-use crate::event::Event;
+use crate::log_event::LogEvent;
+use crate::log_record::LogRecord;
+use crate::nak::{Nak, nak_in};
 use crate::reading::reason_of;
 use crate::shared::Shared;
-use crate::told::Told;
 use bsc_edge::{Incoming, LinkFault};
 use bsc_octets::Identity;
 use bsc_past::Past;
@@ -25,12 +27,12 @@ use std::time::{Clock, Duration};
 
 /// What is told of one link, and what that takes.
 #[derive(Drop)]
-pub(crate) struct Log<R> {
+pub(crate) struct LinkLog<R> {
     pub(crate) rt: R,
     pub(crate) shared: Arc<Shared>,
     pub(crate) course: Course,
     /// What was told so far, for contracts alone.
-    pub(crate) told: Past<Told>,
+    pub(crate) told: Past<LogRecord>,
 }
 
 /// Who asks to join by these octets on a link of which this is known.
@@ -44,7 +46,24 @@ fn asker_at(alloc: Global, course: &Course, m: &[u8]) -> Option<Identity>
     }
 }
 
-impl<R> Log<R> {
+/// The NAK of a Connect-Request that these octets are, which are put on a link of which this is known, where it hasn't joined.
+fn nak_at(course: &Course, m: &[u8]) -> Option<Nak>
+    ensures { IsTold course.now.stage m.now result }
+{
+    if course.may_join() { nak_in(m) } else { None }
+}
+
+/// What a NAK tells, if there is one.
+fn event_of(nak: Option<Nak>) -> Option<LogEvent>
+    ensures { result ≡ nak_event nak }
+{
+    match nak {
+        Some(nak) => Some(LogEvent::Nak(nak)),
+        None => None,
+    }
+}
+
+impl<R> LinkLog<R> {
     /// Whether the hub asked its peer to leave, and its connection is known to have been taken over.
     fn is_taken(&self) -> bool {
         match self.course.leaving() {
@@ -69,9 +88,9 @@ impl<R> Log<R> {
     }
 }
 
-impl<R: Clock + Wait> Log<R> {
+impl<R: Clock + Wait> LinkLog<R> {
     /// Tells this, where there is something to tell.
-    fn tell(&mut self, event: Option<Event>)
+    fn tell(&mut self, event: Option<LogEvent>)
         ensures { GoesOn self.old self.new self.old.course event }
     {
         if let Some(event) = event {
@@ -112,12 +131,21 @@ impl<R: Clock + Wait> Log<R> {
         }
     }
 
+    /// These octets were put.
+    fn was_put(&mut self, m: &[u8])
+        ensures { Hears self.old self.new (Said.Put m.now None) }
+    {
+        let nak = nak_at(&self.course, m);
+        self.course.put(m);
+        self.tell(event_of(nak));
+    }
+
     /// A put of these octets was answered so.
     pub(crate) fn put(&mut self, m: &[u8], answer: &Result<(), LinkFault>)
         ensures { Hears self.old self.new (Said.Put m.now (fault_in answer.now)) }
     {
         match answer {
-            Ok(()) => self.course.put(m),
+            Ok(()) => self.was_put(m),
             Err(LinkFault::Failed) => self.failed(),
             Err(LinkFault::NoMemory) => self.nothing(),
         }
@@ -133,11 +161,11 @@ impl<R: Clock + Wait> Log<R> {
     }
 
     /// It is this connection's from now on.
-    pub(crate) fn known_as(&mut self, conn: u64)
+    pub(crate) fn set_connection(&mut self, conn: u64)
         ensures { Heeds self.old self.new (Notice.Known conn) }
     {
-        self.course.known_as(conn);
-        self.tell(Some(Event::Joined));
+        self.course.set_connection(conn);
+        self.tell(Some(LogEvent::Joined));
     }
 
     /// Something is new for this other connection.

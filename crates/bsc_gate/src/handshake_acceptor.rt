@@ -13,7 +13,7 @@ use crate::handshakes::{Handshakes, Turned};
 use crate::listening::Listening;
 use crate::socket_link::{HANDSHAKE_MS, SocketLink, accepted};
 use bsc_edge::{Acceptor, Arrived, Failed, Kind, LinkFault};
-use bsc_live::{Bells, LOOK_MS, Lingering, Moment, Seat, Watch};
+use bsc_live::{LOOK_MS, Lingering, Moment, Seat, Wakers, Watch};
 use bsc_octets::{NoMemory, Vmac};
 use mio::net::{TcpListener, TcpStream};
 use mio::unix::SourceFd;
@@ -59,11 +59,11 @@ enum Backlog {
 /// with the listener, each for 1,000 ms at most as a whole; where all places are taken the oldest goes. A stream that
 /// fails, or that can't be taken, is no fault of the gate. It tells contracts the port that it is bound to.
 #[derive(Drop)]
-pub struct Gate<R: Clock + Net + Wait + Copy + Drop> {
+pub struct HandshakeAcceptor<R: Clock + Net + Wait + Copy + Drop> {
     rt: R,
     host: Ipv4Addr,
     kind: Kind,
-    bells: Arc<Bells>,
+    bells: Arc<Wakers>,
     poll: Poll,
     events: Events,
     listener: Option<TcpListener>,
@@ -92,16 +92,16 @@ fn tokens_of(events: &Events) -> ([Token; BATCH], usize) {
     (tokens, count)
 }
 
-impl<R: Clock + Net + Wait + RandomSource + Copy + Drop> Gate<R> {
+impl<R: Clock + Net + Wait + RandomSource + Copy + Drop> HandshakeAcceptor<R> {
     /// A gate that will listen at this host for links of this kind, and has at most `places` handshakes at work.
     pub fn new(
         rt: R,
         alloc: Global,
         host: Ipv4Addr,
         kind: Kind,
-        bells: Arc<Bells>,
+        bells: Arc<Wakers>,
         places: usize,
-    ) -> io::Result<Gate<R>>
+    ) -> io::Result<HandshakeAcceptor<R>>
         ensures kind { IfOk result (λ g. g.kind ≡ kind) }
         ensures bound { IfOk result (λ g. g.bound ≡ None) }
     {
@@ -111,7 +111,7 @@ impl<R: Clock + Net + Wait + RandomSource + Copy + Drop> Gate<R> {
         let Ok(events) = Events::with_capacity(alloc, BATCH) else {
             return Err(io::Error::from(ErrorKind::OutOfMemory));
         };
-        Ok(Gate {
+        Ok(HandshakeAcceptor {
             rt,
             host,
             kind,
@@ -132,7 +132,7 @@ impl<R: Clock + Net + Wait + RandomSource + Copy + Drop> Gate<R> {
     }
 
     /// The same gate, which is waited for at this watch, as are its links.
-    pub fn watched_by(self, watch: Arc<Watch>) -> io::Result<Gate<R>>
+    pub fn watched_by(self, watch: Arc<Watch>) -> io::Result<HandshakeAcceptor<R>>
         ensures kind { IfOk result (λ g. g.kind ≡ self.kind) }
         ensures bound { IfOk result (λ g. g.bound ≡ self.bound) }
     {
@@ -144,7 +144,7 @@ impl<R: Clock + Net + Wait + RandomSource + Copy + Drop> Gate<R> {
     }
 
     /// The same gate, whose links' sockets linger here once they are dropped. While it waits, it looks at all that linger here.
-    pub fn lingering_at(self, lingering: Arc<Lingering>) -> Gate<R>
+    pub fn lingering_at(self, lingering: Arc<Lingering>) -> HandshakeAcceptor<R>
         ensures kind { result.kind ≡ self.kind }
         ensures bound { result.bound ≡ self.bound }
     {
@@ -383,7 +383,8 @@ impl<R: Clock + Net + Wait + RandomSource + Copy + Drop> Gate<R> {
     }
 }
 
-impl<R: Clock + Net + Wait + RandomSource + Copy + Drop> Acceptor<SocketLink<R>> for Gate<R> {
+impl<R: Clock + Net + Wait + RandomSource + Copy + Drop> Acceptor<SocketLink<R>>
+    for HandshakeAcceptor<R> {
     ghost faults = { λ g. g.faults };
 
     ghost quiets = { λ g. g.quiets };
