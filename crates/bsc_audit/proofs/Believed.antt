@@ -1,11 +1,12 @@
 -- What is told of journals that may be believed.
+-- It serves the clauses of `audit_explained`.
 use Rattle.std.proofs.Common.{◌≡◌, ℕ, ◌+◌, List, ◌∷◌, ◌++◌, length, take, drop, Option, inl, inr, refl, ap, sym, ◌∙◌, subst, arith}
 use Rattle.std.proofs.lemmas.List.{take-append-drop}
 use Rattle.bsc_history.specs.declared.entry.Entry.{Entry}
 use Rattle.bsc_history.specs.declared.limits.About.{About}
 use Rattle.bsc_history.specs.Legality.{Legal}
 use Rattle.bsc_history.proofs.Parts.{Legal-first}
-use Rattle.bsc_places.proofs.Ranges.{none_missing, none_twice}
+use Rattle.bsc_audit.proofs.PlaceFacts.Ranges.{none_missing, none_twice}
 use Rattle.bsc_journal.specs.Journals.{Audited}
 use Rattle.bsc_journal.specs.Good.{IsGood, SayAll}
 use Rattle.bsc_audit.specs.declared.audit_end.AuditEnd.{AuditEnd}

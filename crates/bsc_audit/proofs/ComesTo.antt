@@ -1,4 +1,5 @@
 -- What journals come to whose lines are all good.
+-- It serves the clauses of `judge`.
 use Rattle.std.proofs.Common.{◌≡◌, ◌≢◌, ℕ, ◌+◌, ◌<◌, ◌≤◌, List, [], ◌∷◌, ◌++◌, length, filter, map, Some, None, ap, sym, ◌∙◌, subst, arith}
 use Rattle.std.specs.List.{range_with_len}
 use Rattle.std.specs.List.Sorted.{IsPermutation}
@@ -8,11 +9,11 @@ use Rattle.std.proofs.lemmas.List.{append-nil, length-map}
 use Rattle.bsc_history.specs.declared.entry.Entry.{Entry}
 use Rattle.bsc_history.specs.declared.limits.About.{About}
 use Rattle.bsc_text.specs.Lines.{pieces_of}
-use Rattle.bsc_places.specs.declared.spot.Spot.{Spot}
-use Rattle.bsc_places.specs.Places.{IsLeastMissing, IsLeastTwice}
-use Rattle.bsc_places.proofs.Reordering.{missing_reordered, twice_reordered}
-use Rattle.bsc_journal.specs.declared.said.Said.{Said}
-use Rattle.bsc_journal.specs.declared.said.Said.TheVariants.{Hub, Entry as AnEntry, Denial}
+use Rattle.bsc_audit.specs.declared.places.spot.Spot.{Spot}
+use Rattle.bsc_audit.specs.Places.Places.{IsLeastMissing, IsLeastTwice}
+use Rattle.bsc_audit.proofs.PlaceFacts.Reordering.{missing_reordered, twice_reordered}
+use Rattle.bsc_journal.specs.declared.journal_record.JournalRecord.{JournalRecord}
+use Rattle.bsc_journal.specs.declared.journal_record.JournalRecord.TheVariants.{Hub, Entry as AnEntry, Denial}
 use Rattle.bsc_journal.specs.Journals.{Tells, lines_of}
 use Rattle.bsc_journal.specs.Good.{SayAll}
 use Rattle.bsc_audit.specs.declared.audit_end.AuditEnd.{AuditEnd}
@@ -50,17 +51,19 @@ says_one_hub o h so one = record { all = so.heeds.all; one = count_hubs so.said 
 places_sorted : (o : List ℕ) (h : Heard) (so : HasHeardAll o h) (sorted : List Spot) → IsPermutation h.spots.items sorted → IsPermutation (places_of so.said) (map place_of sorted)
 places_sorted o h so sorted perm = subst (λ (l : List ℕ). IsPermutation l (map place_of sorted)) so.heeds.places (IsPermutation-map place_of h.spots.items sorted perm)
 
-pub says_twice : (o : List ℕ) (h : Heard) (so : HasHeardAll o h) (sorted : List Spot) (p : ℕ) → h.hubs ≡ 1 → IsPermutation h.spots.items sorted → IsLeastTwice p (map place_of sorted) → AuditsTo o (Twice p)
+pub says_twice : (o : List ℕ) (h : Heard) (so : HasHeardAll o h) (sorted : List Spot) (p : ℕ) → h.hubs ≡ 1 → IsPermutation h.spots.items sorted → IsLeastTwice p (map place_of sorted)
+    → AuditsTo o (Twice p)
 says_twice o h so sorted p one perm twice = (so.said, says_one_hub o h so one, twice_reordered (places_of so.said) (map place_of sorted) (places_sorted o h so sorted perm) p twice)
 
-pub says_missing : (o : List ℕ) (h : Heard) (so : HasHeardAll o h) (sorted : List Spot) (p : ℕ) → h.hubs ≡ 1 → IsPermutation h.spots.items sorted → IsLeastMissing p (map place_of sorted) → AuditsTo o (Missing p)
+pub says_missing : (o : List ℕ) (h : Heard) (so : HasHeardAll o h) (sorted : List Spot) (p : ℕ) → h.hubs ≡ 1 → IsPermutation h.spots.items sorted → IsLeastMissing p (map place_of sorted)
+    → AuditsTo o (Missing p)
 says_missing o h so sorted p one perm missing =
     let perms = places_sorted o h so sorted perm in
     (so.said, says_one_hub o h so one, missing_reordered (places_of so.said) (map place_of sorted) perms (IsPermutation-sym (places_of so.said) (map place_of sorted) perms) p missing)
 
 -- ---- how many entries there are
 
-few_places : (before : ℕ) (pieces : List (List ℕ)) (said : List Said) → SayAll before pieces said → length (places_of said) ≤ length pieces
+few_places : (before : ℕ) (pieces : List (List ℕ)) (said : List JournalRecord) → SayAll before pieces said → length (places_of said) ≤ length pieces
 few_places before [] [] all = omega arith
 few_places before [] (s ∷ said) all = absurd all
 few_places before (p ∷ pieces) [] all = absurd all
@@ -84,12 +87,14 @@ few_spots o h so sorted perm =
 told_here : (o : List ℕ) (h : Heard) (so : HasHeardAll o h) → map (line_at o) h.spots.items ≡ entry_lines (pieces_of o) so.said
 told_here o h so = ap (λ (x : List ℕ). map (line_at x) h.spots.items) (sym (append-nil o)) ∙ so.heeds.told []
 
-pub some_history : (o : List ℕ) (h : Heard) (so : HasHeardAll o h) (sorted : List Spot) → IsPermutation h.spots.items sorted → map place_of sorted ≡ range_with_len 0 (length sorted) → (H : List Entry) × AreInOrder o sorted H
+pub some_history : (o : List ℕ) (h : Heard) (so : HasHeardAll o h) (sorted : List Spot) → IsPermutation h.spots.items sorted → map place_of sorted ≡ range_with_len 0 (length sorted)
+    → (H : List Entry) × AreInOrder o sorted H
 some_history o h so sorted perm places =
     let all = spots_of_entries o 0 (pieces_of o) so.said h.spots.items so.heeds.all so.heeds.places (told_here o h so) in
     history_of o sorted (recursion_from_All (IsSpotOfOne o) sorted (All-permutation (IsSpotOfOne o) h.spots.items sorted perm (All-from_recursion (IsSpotOfOne o) h.spots.items all))) places
 
-pub tells : (o : List ℕ) (h : Heard) (so : HasHeardAll o h) (about : About) (sorted : List Spot) (H : List Entry) → h.hubs ≡ 1 → h.about ≡ Some about → IsPermutation h.spots.items sorted → AreInOrder o sorted H → Tells o about H
+pub tells : (o : List ℕ) (h : Heard) (so : HasHeardAll o h) (about : About) (sorted : List Spot) (H : List Entry) → h.hubs ≡ 1 → h.about ≡ Some about → IsPermutation h.spots.items sorted
+    → AreInOrder o sorted H → Tells o about H
 tells o h so about sorted H one is perm order =
     let pieces = pieces_of o in
     let hubs : hubs_of so.said ≡ about ∷ [] = one_hub (hubs_of so.said) about (sym so.heeds.hubs ∙ one) (sym so.heeds.about ∙ is) in
@@ -109,7 +114,8 @@ tells o h so about sorted H one is perm order =
       lines = subst (λ (l : List (List ℕ)). IsPermutation kept (hub.line ∷ l)) order.lines all;
     }
 
-pub comes_to : (o : List ℕ) (h : Heard) (so : HasHeardAll o h) (about : About) (sorted : List Spot) (H : List Entry) (r : AuditEnd) → h.hubs ≡ 1 → h.about ≡ Some about → IsPermutation h.spots.items sorted → AreInOrder o sorted H → Judges about H r → AuditsTo o r
+pub comes_to : (o : List ℕ) (h : Heard) (so : HasHeardAll o h) (about : About) (sorted : List Spot) (H : List Entry) (r : AuditEnd) → h.hubs ≡ 1 → h.about ≡ Some about
+    → IsPermutation h.spots.items sorted → AreInOrder o sorted H → Judges about H r → AuditsTo o r
 comes_to o h so about sorted H (IsLegal entries) one is perm order judged = record {
   within = say_within o so.said so.heeds.all (so.heeds.long ∙ so.whole);
   about = about;

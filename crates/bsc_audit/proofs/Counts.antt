@@ -1,4 +1,5 @@
 -- How many lines are hub lines, and which places entries have, whatever their order.
+-- It serves the clauses of `audit_explained`.
 use Rattle.std.proofs.Common.{◌≡◌, ℕ, ◌+◌, ◌==◌, Bool, true, false, not, cond, ◌&&◌, List, [], ◌∷◌, ◌++◌, length, filter, Option, refl, ap, sym, ◌∙◌, arith, zero-add}
 use Rattle.std.specs.List.{count_by, range_with_len}
 use Rattle.std.proofs.lemmas.Bool.{and_left, false_from_ne_true}
@@ -8,10 +9,10 @@ use Rattle.bsc_history.specs.declared.entry.Entry.{Entry}
 use Rattle.bsc_history.specs.declared.limits.About.{About}
 use Rattle.bsc_text.specs.Grammar.{is_digit}
 use Rattle.bsc_text.specs.Lines.{line_in, pieces_of}
-use Rattle.bsc_places.proofs.Counting.{often}
-use Rattle.bsc_places.proofs.Ranges.{AreAll}
-use Rattle.bsc_journal.specs.declared.said.Said.{Said}
-use Rattle.bsc_journal.specs.declared.said.Said.TheVariants.{Hub, Entry as AnEntry, Denial}
+use Rattle.bsc_audit.proofs.PlaceFacts.Counting.{often}
+use Rattle.bsc_audit.proofs.PlaceFacts.Ranges.{AreAll}
+use Rattle.bsc_journal.specs.declared.journal_record.JournalRecord.{JournalRecord}
+use Rattle.bsc_journal.specs.declared.journal_record.JournalRecord.TheVariants.{Hub, Entry as AnEntry, Denial}
 use Rattle.bsc_lines.specs.Lines.{entry_line}
 use Rattle.bsc_journal.specs.Reading.{read_of}
 use Rattle.bsc_journal.specs.Saying.{IsHubLine, IsLineOf}
@@ -55,7 +56,7 @@ count_no t l ls e = count_cons t l ls false e ∙ zero-add (count t ls)
 abbrev is_other : List ℕ → Bool
 is_other l = not (starts_with_digit l)
 
-hubs_other : (before : ℕ) (pieces : List (List ℕ)) (said : List Said) → SayAll before pieces said → count is_other (hub_lines pieces said) ≡ length (hubs_of said)
+hubs_other : (before : ℕ) (pieces : List (List ℕ)) (said : List JournalRecord) → SayAll before pieces said → count is_other (hub_lines pieces said) ≡ length (hubs_of said)
 hubs_other before [] [] all = refl
 hubs_other before [] (s ∷ said) all = absurd all
 hubs_other before (p ∷ pieces) [] all = absurd all
@@ -66,7 +67,7 @@ hubs_other before (p ∷ pieces) (Hub about ∷ said) all =
 hubs_other before (p ∷ pieces) (AnEntry place e ∷ said) all = hubs_other (before + length p) pieces said all.1
 hubs_other before (p ∷ pieces) (Denial ∷ said) all = hubs_other (before + length p) pieces said all.1
 
-entries_other : (before : ℕ) (pieces : List (List ℕ)) (said : List Said) → SayAll before pieces said → count is_other (entry_lines pieces said) ≡ 0
+entries_other : (before : ℕ) (pieces : List (List ℕ)) (said : List JournalRecord) → SayAll before pieces said → count is_other (entry_lines pieces said) ≡ 0
 entries_other before [] [] all = refl
 entries_other before [] (s ∷ said) all = absurd all
 entries_other before (p ∷ pieces) [] all = absurd all
@@ -84,7 +85,7 @@ lines_other n (e ∷ H) have =
     let more = lines_other (n + 1) H have.1 in
     omega (arith, here, more)
 
-pub one_hub_said : (o : List ℕ) (about : About) (H : List Entry) (said : List Said) → Tells o about H → SayAll 0 (pieces_of o) said → count_by is_hub said ≡ 1
+pub one_hub_said : (o : List ℕ) (about : About) (H : List Entry) (said : List JournalRecord) → Tells o about H → SayAll 0 (pieces_of o) said → count_by is_hub said ≡ 1
 one_hub_said o about H said t all =
     let pieces = pieces_of o in
     let kept = filter is_kept (lines_of o) in
@@ -112,7 +113,7 @@ entry_at p l place e is =
     ap (λ (b : Bool). b && (place_read (read_of l) == p)) (entry_starts l place e is)
     ∙ ap (λ (r : Option (ℕ × Entry)). place_read r == p) (read_is l place e is)
 
-hubs_at : (p before : ℕ) (pieces : List (List ℕ)) (said : List Said) → SayAll before pieces said → count (is_at p) (hub_lines pieces said) ≡ 0
+hubs_at : (p before : ℕ) (pieces : List (List ℕ)) (said : List JournalRecord) → SayAll before pieces said → count (is_at p) (hub_lines pieces said) ≡ 0
 hubs_at p before [] [] all = refl
 hubs_at p before [] (s ∷ said) all = absurd all
 hubs_at p before (q ∷ pieces) [] all = absurd all
@@ -123,7 +124,7 @@ hubs_at p before (q ∷ pieces) (Hub about ∷ said) all =
 hubs_at p before (q ∷ pieces) (AnEntry place e ∷ said) all = hubs_at p (before + length q) pieces said all.1
 hubs_at p before (q ∷ pieces) (Denial ∷ said) all = hubs_at p (before + length q) pieces said all.1
 
-entries_at : (p before : ℕ) (pieces : List (List ℕ)) (said : List Said) → SayAll before pieces said → count (is_at p) (entry_lines pieces said) ≡ often p (places_of said)
+entries_at : (p before : ℕ) (pieces : List (List ℕ)) (said : List JournalRecord) → SayAll before pieces said → count (is_at p) (entry_lines pieces said) ≡ often p (places_of said)
 entries_at p before [] [] all = refl
 entries_at p before [] (s ∷ said) all = absurd all
 entries_at p before (q ∷ pieces) [] all = absurd all
@@ -141,7 +142,7 @@ lines_at p n (e ∷ H) have =
     ∙ ap (λ (m : ℕ). cond (n == p) 1 0 + m) (lines_at p (n + 1) H have.1)
     ∙ sym (sum_by-cons (λ x. cond (x == p) 1 0) n (range_with_len (n + 1) (length H)))
 
-pub places_all : (o : List ℕ) (about : About) (H : List Entry) (said : List Said) → Tells o about H → SayAll 0 (pieces_of o) said → AreAll (places_of said) (length H)
+pub places_all : (o : List ℕ) (about : About) (H : List Entry) (said : List JournalRecord) → Tells o about H → SayAll 0 (pieces_of o) said → AreAll (places_of said) (length H)
 places_all o about H said t all = λ p.
     let pieces = pieces_of o in
     let kept = filter is_kept (lines_of o) in

@@ -1,9 +1,10 @@
 -- What is told beside an answer is so.
+-- It serves clauses of functions of `judging` and `reasons`.
 use Rattle.std.proofs.Common.{◌≡◌, ℕ, List, Option, Some, None, sym, subst}
 use Rattle.std.specs.Prelude.{IfSome}
 use Rattle.bsc_history.specs.declared.entry.Entry.{Entry}
 use Rattle.bsc_history.specs.declared.limits.About.{About}
-use Rattle.bsc_places.specs.declared.spot.Spot.{Spot}
+use Rattle.bsc_audit.specs.declared.places.spot.Spot.{Spot}
 use Rattle.bsc_journal.specs.Saying.{IsLineOf}
 use Rattle.bsc_journal.specs.Journals.{Tells}
 use Rattle.bsc_legality.specs.declared.legality.Legality.{Legality}

@@ -1,8 +1,9 @@
 -- Entries whose places are all those from 0 on are a history.
+-- It serves the clauses of `judge`.
 use Rattle.std.proofs.Common.{◌≡◌, ℕ, ◌+◌, List, [], ◌∷◌, length, drop, map, refl, ap, subst}
 use Rattle.std.specs.List.{AllByRecursion, range_with_len}
 use Rattle.bsc_history.specs.declared.entry.Entry.{Entry}
-use Rattle.bsc_places.specs.declared.spot.Spot.{Spot}
+use Rattle.bsc_audit.specs.declared.places.spot.Spot.{Spot}
 use Rattle.bsc_journal.specs.Saying.{IsLineOf}
 use Rattle.bsc_journal.specs.Journals.{HaveLines, lines_from}
 use Rattle.bsc_audit.specs.Hearing.{AreInOrder, line_at}

@@ -1,11 +1,12 @@
 -- Entries in order, judged one after another.
+-- It serves clauses of functions of `judging` and `reasons`.
 use Rattle.std.proofs.Common.{◌≡◌, ℕ, ◌+◌, List, [], ◌∷◌, ◌++◌, length, take, drop, map, refl, ap, sym, ◌∙◌, subst, arith, append_assoc, append-nil, length-append}
 use Rattle.std.proofs.lemmas.List.{length_push}
 use Rattle.std.proofs.Math.Seq.{take-append-add}
 use Rattle.bsc_history.specs.declared.entry.Entry.{Entry}
 use Rattle.bsc_history.specs.declared.limits.About.{About}
 use Rattle.bsc_history.specs.Legality.{Legal}
-use Rattle.bsc_places.specs.declared.spot.Spot.{Spot}
+use Rattle.bsc_audit.specs.declared.places.spot.Spot.{Spot}
 use Rattle.bsc_legality.specs.declared.legality.Legality.{Legality}
 use Rattle.bsc_legality.specs.Standing.{LegalityStands}
 use Rattle.bsc_lines.specs.Lines.{entry_line}
@@ -60,7 +61,8 @@ next_of about o spot left l place H done (e ∷ others) parts count stands lines
   have = have.1;
 }
 
-pub next_judged : (about : About) (o : List ℕ) (spot : Spot) (left : List Spot) (l : Legality) (place : ℕ) (H : List Entry) → Judged about o (spot ∷ left) l place H → IsNext about o spot left l place H
+pub next_judged : (about : About) (o : List ℕ) (spot : Spot) (left : List Spot) (l : Legality) (place : ℕ) (H : List Entry) → Judged about o (spot ∷ left) l place H
+    → IsNext about o spot left l place H
 next_judged about o spot left l place H j = next_of about o spot left l place H j.done j.others j.parts j.count j.stands j.lines j.have
 
 -- the next entry is legal behind those before it

@@ -15,3 +15,4 @@ pub mod OneHistory
 pub mod Believed
 pub mod Explained
 mod WorkedJournals
+pub mod PlaceFacts

@@ -1,4 +1,5 @@
 -- Octets tell one history of one hub.
+-- It serves the clauses of `audit_explained`.
 use Rattle.std.proofs.Common.{◌≡◌, ℕ, suc, ◌+◌, List, [], ◌∷◌, ◌++◌, length, drop, filter, refl, ap, sym, ◌∙◌, subst, arith, append_assoc}
 use Rattle.std.specs.List.{AllByRecursion}
 use Rattle.std.proofs.lemmas.List.{drop_at, length_push}
@@ -6,8 +7,8 @@ use Rattle.std.proofs.lemmas.List.Elements.{All-from_recursion, recursion_from_A
 use Rattle.std.proofs.lemmas.List.Sorted.{All-permutation, IsPermutation-sym, IsPermutation-trans, length_permutation}
 use Rattle.bsc_history.specs.declared.entry.Entry.{Entry}
 use Rattle.bsc_history.specs.declared.limits.About.{About}
-use Rattle.bsc_journal.specs.declared.said.Said.{Said}
-use Rattle.bsc_journal.specs.declared.said.Said.TheVariants.{Hub, Entry as AnEntry, Denial}
+use Rattle.bsc_journal.specs.declared.journal_record.JournalRecord.{JournalRecord}
+use Rattle.bsc_journal.specs.declared.journal_record.JournalRecord.TheVariants.{Hub, Entry as AnEntry, Denial}
 use Rattle.bsc_lines.specs.Lines.{entry_line}
 use Rattle.bsc_journal.specs.Saying.{Says}
 use Rattle.bsc_journal.specs.Journals.{HaveLines, Tells, lines_from, lines_of}
@@ -23,19 +24,19 @@ pub record StandsAt (H : List Entry) (k : ℕ) (e : Entry) : Type 0 where
   pub at : length front ≡ k
 
 -- what is said is of this hub and of this history
-abbrev IsOf : About → List Entry → Said → Type 0
+abbrev IsOf : About → List Entry → JournalRecord → Type 0
 IsOf about H (Hub a) = a ≡ about
 IsOf about H (AnEntry place e) = StandsAt H place e
 IsOf about H Denial = ⊥
 
 -- A line says something of this hub and of this history.
 pub record SaysOf (about : About) (H : List Entry) (l : List ℕ) : Type 0 where
-  pub s : Said
+  pub s : JournalRecord
   pub says : Says l s
   pub of : IsOf about H s
 
-fits : (about : About) (H : List Entry) (l : List ℕ) (s : Said) → SaysOf about H l → Says l s → IsOf about H s
-fits about H l s of says = subst (λ (t : Said). IsOf about H t) (says_one l of.s s of.says says) of.of
+fits : (about : About) (H : List Entry) (l : List ℕ) (s : JournalRecord) → SaysOf about H l → Says l s → IsOf about H s
+fits about H l s of says = subst (λ (t : JournalRecord). IsOf about H t) (says_one l of.s s of.says says) of.of
 
 all_of : (about : About) (H : List Entry) (n : ℕ) (front G : List Entry) → H ≡ front ++ G → length front ≡ n → HaveLines n G → AllByRecursion (SaysOf about H) (lines_from n G)
 all_of about H n front [] parts at have = tt
@@ -61,7 +62,8 @@ same_from about H n front (e ∷ G) (f ∷ F) parts at long have all =
     let there = fits about H (entry_line n e) (AnEntry n e) all.0 (record { line = refl; has = have.0 }) in
     let same : f ∷ F ≡ e ∷ there.rest = same_rest n front there.front (f ∷ F) (e ∷ there.rest) (sym parts ∙ there.parts) at there.at in
     let first : e ≡ f = ap (head_or e) (sym same) in
-    let more = same_from about H (n + 1) (front ++ f ∷ []) G F (parts ∙ sym (append_assoc front (f ∷ []) F)) (let m = length_push front f in omega (arith, m, at)) (let l : suc (length G) ≡ suc (length F) = long in omega (arith, l)) have.1 all.1 in
+    let more = same_from about H (n + 1) (front ++ f ∷ []) G F (parts ∙ sym (append_assoc front (f ∷ []) F)) (let m = length_push front f in omega (arith, m, at))
+    (let l : suc (length G) ≡ suc (length F) = long in omega (arith, l)) have.1 all.1 in
     λ i. first i ∷ more i
 
 -- as many lines as entries, and the hub line

@@ -1,4 +1,5 @@
 -- Octets that tell a history are good lines, and say what they tell.
+-- It serves the clauses of `audit_explained`.
 use Rattle.std.proofs.Common.{◌≡◌, ℕ, ◌+◌, ◌≤◌, ◌==◌, Bool, true, false, cond, nat_le, nat_lt, List, [], ◌∷◌, ◌++◌, length, filter, map, refl, ap, ◌∙◌, subst, arith, length-append}
 use Rattle.std.specs.List.{AllByRecursion, list_all}
 use Rattle.std.proofs.lemmas.Bool.{and_parts, le-ltb, leb-true, not-false, or_from}
@@ -7,8 +8,8 @@ use Rattle.std.proofs.lemmas.List.Sorted.{All-permutation, IsPermutation-sym}
 use Rattle.bsc_history.specs.declared.entry.Entry.{Entry}
 use Rattle.bsc_history.specs.declared.limits.About.{About}
 use Rattle.bsc_text.specs.Lines.{in_front, line_in, pieces_of}
-use Rattle.bsc_journal.specs.declared.said.Said.{Said}
-use Rattle.bsc_journal.specs.declared.said.Said.TheVariants.{Hub, Entry as AnEntry, Denial}
+use Rattle.bsc_journal.specs.declared.journal_record.JournalRecord.{JournalRecord}
+use Rattle.bsc_journal.specs.declared.journal_record.JournalRecord.TheVariants.{Hub, Entry as AnEntry, Denial}
 use Rattle.bsc_journal.specs.Saying.{Says, is_denial}
 use Rattle.bsc_journal.specs.Journals.{HaveLines, Tells, is_within, lines_from, lines_of, most_in_line, most_octets}
 use Rattle.bsc_journal.specs.Good.{IsGood, SayAll}
@@ -31,7 +32,7 @@ flat_pieces (c ∷ o) = by_lf (c == 10) c o (flat_pieces o)
 
 -- A line says something.
 pub record SaysSome (l : List ℕ) : Type 0 where
-  pub s : Said
+  pub s : JournalRecord
   pub says : Says l s
 
 entries_say : (n : ℕ) (H : List Entry) → HaveLines n H → AllByRecursion SaysSome (lines_from n H)
@@ -57,10 +58,11 @@ lines_say o about H t =
 
 -- Pieces say these things, and are good.
 pub record SayThese (before : ℕ) (pieces : List (List ℕ)) : Type 0 where
-  pub said : List Said
+  pub said : List JournalRecord
   pub all : SayAll before pieces said
 
-say_these : (before : ℕ) (pieces : List (List ℕ)) → AllByRecursion SaysSome (map line_in pieces) → list_all is_short_line (map line_in pieces) ≡ true → before + length (flat pieces) ≤ most_octets → SayThese before pieces
+say_these : (before : ℕ) (pieces : List (List ℕ)) → AllByRecursion SaysSome (map line_in pieces) → list_all is_short_line (map line_in pieces) ≡ true
+    → before + length (flat pieces) ≤ most_octets → SayThese before pieces
 say_these before [] says short few = record { said = []; all = tt }
 say_these before (p ∷ pieces) says short few =
     let long = length-append p (flat pieces) in
@@ -80,7 +82,8 @@ telling_says o about H within t =
     say_these 0 (pieces_of o) (lines_say o about H t) parts.1 (omega (arith, few, long))
 
 -- a piece among good ones is good
-pub say_at : (before : ℕ) (good : List (List ℕ)) (bad : List ℕ) (rest : List (List ℕ)) (said : List Said) → SayAll before (good ++ bad ∷ rest) said → (s : Said) × IsGood (before + length (flat good)) bad s
+pub say_at : (before : ℕ) (good : List (List ℕ)) (bad : List ℕ) (rest : List (List ℕ)) (said : List JournalRecord) → SayAll before (good ++ bad ∷ rest) said → (s : JournalRecord)
+    × IsGood (before + length (flat good)) bad s
 say_at before [] bad rest [] all = absurd all
 say_at before [] bad rest (s ∷ said) all = (s, subst (λ (n : ℕ). IsGood n bad s) (let same : before ≡ before + 0 = omega arith in same) all.0)
 say_at before (p ∷ good) bad rest [] all = absurd all

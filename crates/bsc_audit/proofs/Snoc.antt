@@ -1,10 +1,11 @@
 -- One more piece at the end, and what it says.
+-- It serves clauses of functions of `auditing`, `hearing`, `judging` and `taking`.
 use Rattle.std.proofs.Common.{◌≡◌, ℕ, ◌+◌, List, [], ◌∷◌, ◌++◌, length, flat_map, Option, Some, refl, ap, ◌∙◌, subst, arith, length-append, append-nil}
 use Rattle.std.specs.List.{last_or}
 use Rattle.bsc_history.specs.declared.limits.About.{About}
 use Rattle.bsc_text.specs.Lines.{line_in}
-use Rattle.bsc_journal.specs.declared.said.Said.{Said}
-use Rattle.bsc_journal.specs.declared.said.Said.TheVariants.{Hub, Entry as AnEntry, Denial}
+use Rattle.bsc_journal.specs.declared.journal_record.JournalRecord.{JournalRecord}
+use Rattle.bsc_journal.specs.declared.journal_record.JournalRecord.TheVariants.{Hub, Entry as AnEntry, Denial}
 use Rattle.bsc_journal.specs.Good.{IsGood, SayAll}
 use Rattle.bsc_audit.specs.Verdicts.{places_of}
 use Rattle.bsc_audit.specs.Hearing.{entry_lines, hubs_of}
@@ -22,7 +23,7 @@ flat_snoc (q ∷ pieces) p =
     omega (arith, more, long, was)
 
 -- all of them are good, and so is one more
-pub say_snoc : (before : ℕ) (pieces : List (List ℕ)) (said : List Said) (p : List ℕ) (s : Said) →
+pub say_snoc : (before : ℕ) (pieces : List (List ℕ)) (said : List JournalRecord) (p : List ℕ) (s : JournalRecord) →
     SayAll before pieces said → IsGood (before + length (flat pieces)) p s → SayAll before (pieces ++ p ∷ []) (said ++ s ∷ [])
 say_snoc before [] [] p s all good = (subst (λ (n : ℕ). IsGood n p s) (let same : before + 0 ≡ before = omega arith in same) good, tt)
 say_snoc before [] (t ∷ said) p s all good = absurd all
@@ -32,19 +33,19 @@ say_snoc before (q ∷ pieces) (t ∷ said) p s all good =
     let same : before + length (q ++ flat pieces) ≡ (before + length q) + length (flat pieces) = omega (arith, long) in
     (all.0, say_snoc (before + length q) pieces said p s all.1 (subst (λ (n : ℕ). IsGood n p s) same good))
 
-pub hubs_snoc : (said : List Said) (s : Said) → hubs_of (said ++ s ∷ []) ≡ hubs_of said ++ hubs_of (s ∷ [])
+pub hubs_snoc : (said : List JournalRecord) (s : JournalRecord) → hubs_of (said ++ s ∷ []) ≡ hubs_of said ++ hubs_of (s ∷ [])
 hubs_snoc [] s = refl
 hubs_snoc (Hub about ∷ said) s = ap (λ (l : List About). about ∷ l) (hubs_snoc said s)
 hubs_snoc (AnEntry place e ∷ said) s = hubs_snoc said s
 hubs_snoc (Denial ∷ said) s = hubs_snoc said s
 
-pub places_snoc : (said : List Said) (s : Said) → places_of (said ++ s ∷ []) ≡ places_of said ++ places_of (s ∷ [])
+pub places_snoc : (said : List JournalRecord) (s : JournalRecord) → places_of (said ++ s ∷ []) ≡ places_of said ++ places_of (s ∷ [])
 places_snoc [] s = refl
 places_snoc (Hub about ∷ said) s = places_snoc said s
 places_snoc (AnEntry place e ∷ said) s = ap (λ (l : List ℕ). place ∷ l) (places_snoc said s)
 places_snoc (Denial ∷ said) s = places_snoc said s
 
-pub entries_snoc : (before : ℕ) (pieces : List (List ℕ)) (said : List Said) (p : List ℕ) (s : Said) → SayAll before pieces said →
+pub entries_snoc : (before : ℕ) (pieces : List (List ℕ)) (said : List JournalRecord) (p : List ℕ) (s : JournalRecord) → SayAll before pieces said →
     entry_lines (pieces ++ p ∷ []) (said ++ s ∷ []) ≡ entry_lines pieces said ++ entry_lines (p ∷ []) (s ∷ [])
 entries_snoc before [] [] p s all = refl
 entries_snoc before [] (t ∷ said) p s all = absurd all

@@ -1,13 +1,15 @@
 -- What was heard so far, with one more piece, and where more was read.
-use Rattle.std.proofs.Common.{◌≡◌, ℕ, ◌+◌, ◌<◌, ◌≤◌, true, List, [], ◌∷◌, ◌++◌, length, take, drop, map, Option, None, OnOk, Result, Ok, Err, refl, ap, sym, ◌∙◌, subst, arith, append_assoc, append-nil, length-append, length-drop, take_all}
+-- It serves clauses of functions of `auditing`, `hearing`, `judging` and `taking`.
+use Rattle.std.proofs.Common.{◌≡◌, ℕ, ◌+◌, ◌<◌, ◌≤◌, true, List, [], ◌∷◌, ◌++◌, length, take, drop, map, Option, None, OnOk, Result, Ok, Err, refl, ap, sym, ◌∙◌, subst, arith}
+use Rattle.std.proofs.Common.{append_assoc, append-nil, length-append, length-drop, take_all}
 use Rattle.std.specs.List.{last_or}
 use Rattle.std.proofs.lemmas.List.{drop-append-le, drop-drop, drop_all, length_push, map-append, take-append-drop}
 use Rattle.bsc_history.specs.declared.limits.About.{About}
 use Rattle.bsc_text.specs.Lines.{BeginsLine, has_no_lf, line_in, pieces_of}
 use Rattle.bsc_text.proofs.Cutting.{pieces_of-last, pieces_of-lf}
-use Rattle.bsc_places.specs.declared.spot.Spot.{Spot}
-use Rattle.bsc_journal.specs.declared.said.Said.{Said}
-use Rattle.bsc_journal.specs.declared.said.Said.TheVariants.{Hub, Entry as AnEntry, Denial}
+use Rattle.bsc_audit.specs.declared.places.spot.Spot.{Spot}
+use Rattle.bsc_journal.specs.declared.journal_record.JournalRecord.{JournalRecord}
+use Rattle.bsc_journal.specs.declared.journal_record.JournalRecord.TheVariants.{Hub, Entry as AnEntry, Denial}
 use Rattle.bsc_journal.specs.Good.{IsGood}
 use Rattle.bsc_audit.specs.declared.heard.Heard.{Heard}
 use Rattle.bsc_audit.specs.Verdicts.{places_of}
@@ -18,13 +20,13 @@ use Rattle.bsc_audit.proofs.Spots.{length_part, part_is, spots_told}
 abbrev pub place_of : Spot → ℕ
 place_of s = s.place
 
-spot_places : (from to : ℕ) (s : Said) → map place_of (spots_of from to s) ≡ places_of (s ∷ [])
+spot_places : (from to : ℕ) (s : JournalRecord) → map place_of (spots_of from to s) ≡ places_of (s ∷ [])
 spot_places from to (Hub about) = refl
 spot_places from to (AnEntry place e) = refl
 spot_places from to Denial = refl
 
 -- one more piece was heard
-pub heeds_more : (o : List ℕ) (h h' : Heard) (pieces : List (List ℕ)) (said : List Said) (next : ℕ) → Heeds o h pieces said →
+pub heeds_more : (o : List ℕ) (h h' : Heard) (pieces : List (List ℕ)) (said : List JournalRecord) (next : ℕ) → Heeds o h pieces said →
     h.at ≤ next → next ≤ length o → (heard : HearsPiece o h h' next) →
     Heeds o h' (pieces ++ part o h.at next ∷ []) (said ++ heard.s ∷ [])
 heeds_more o h h' pieces said next so order within heard =
@@ -43,7 +45,8 @@ heeds_more o h h' pieces said next so order within heard =
           let was = so.hubs in
           let all : length (hubs_of (said ++ s ∷ [])) ≡ length (hubs_of said) + length (hubs_of (s ∷ [])) = ap length (hubs_snoc said s) ∙ length-append (hubs_of said) (hubs_of (s ∷ [])) in
           omega (arith, add, was, all));
-      about = adds.about ∙ ap (λ (x : Option About). last_or x (hubs_of (s ∷ []))) so.about ∙ sym (last_append None (hubs_of said) (hubs_of (s ∷ []))) ∙ ap (λ (l : List About). last_or None l) (sym (hubs_snoc said s));
+      about = adds.about ∙ ap (λ (x : Option About). last_or x (hubs_of (s ∷ []))) so.about ∙ sym (last_append None (hubs_of said) (hubs_of (s ∷ [])))
+          ∙ ap (λ (l : List About). last_or None l) (sym (hubs_snoc said s));
       places =
           ap (map place_of) adds.spots
           ∙ map-append place_of h.spots.items (spots_of h.at (h.at + length (line_in p)) s)
@@ -131,7 +134,7 @@ heard_nothing h at lines hubs about spots = record {
 pieces_now : (o : List ℕ) (h : Heard) (so : HasHeard o h) → pieces_of o ≡ so.pieces ++ pieces_of (drop h.at o)
 pieces_now o h so = ap pieces_of (sym (append-nil o)) ∙ so.cut [] ∙ ap (λ (x : List ℕ). so.pieces ++ pieces_of x) (append-nil (drop h.at o))
 
-heeds_pieces : (o : List ℕ) (h : Heard) (said : List Said) (ps qs : List (List ℕ)) → ps ≡ qs → Heeds o h ps said → Heeds o h qs said
+heeds_pieces : (o : List ℕ) (h : Heard) (said : List JournalRecord) (ps qs : List (List ℕ)) → ps ≡ qs → Heeds o h ps said → Heeds o h qs said
 heeds_pieces o h said ps qs e so = subst (λ (x : List (List ℕ)). Heeds o h x said) e so
 
 -- all of it was heard: nothing is left

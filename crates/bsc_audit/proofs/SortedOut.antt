@@ -1,4 +1,5 @@
 -- The lines of what was said are hub lines, lines of entries, and what is passed over.
+-- It serves the clauses of `audit_explained` and `judge`.
 use Rattle.std.proofs.Common.{◌≡◌, ℕ, ◌+◌, Bool, true, false, not, cond, List, [], ◌∷◌, ◌++◌, length, drop, suc, filter, map, Some, None, refl, ap, sym, ◌∙◌, subst, arith}
 use Rattle.std.specs.List.{AllByRecursion, count_by, last_or}
 use Rattle.std.specs.List.Sorted.{IsPermutation}
@@ -8,9 +9,9 @@ use Rattle.std.proofs.lemmas.List.Sums.{sum_by-cons}
 use Rattle.bsc_history.specs.declared.entry.Entry.{Entry}
 use Rattle.bsc_history.specs.declared.limits.About.{About}
 use Rattle.bsc_text.specs.Lines.{line_in}
-use Rattle.bsc_places.specs.declared.spot.Spot.{Spot}
-use Rattle.bsc_journal.specs.declared.said.Said.{Said}
-use Rattle.bsc_journal.specs.declared.said.Said.TheVariants.{Hub, Entry as AnEntry, Denial}
+use Rattle.bsc_audit.specs.declared.places.spot.Spot.{Spot}
+use Rattle.bsc_journal.specs.declared.journal_record.JournalRecord.{JournalRecord}
+use Rattle.bsc_journal.specs.declared.journal_record.JournalRecord.TheVariants.{Hub, Entry as AnEntry, Denial}
 use Rattle.bsc_journal.specs.Saying.{IsHubLine, IsLineOf, is_denial}
 use Rattle.bsc_journal.specs.Good.{SayAll}
 use Rattle.bsc_journal.proofs.SaidOnce.{entry_no_denial, hub_no_denial}
@@ -35,7 +36,7 @@ same_then : (xs ys zs : List (List ℕ)) → xs ≡ ys → IsPermutation ys zs �
 same_then xs ys zs e p = subst (λ (x : List (List ℕ)). IsPermutation x zs) (sym e) p
 
 -- The lines that are kept are the hub lines and then those of entries, in another order.
-pub sorted_out : (before : ℕ) (pieces : List (List ℕ)) (said : List Said) → SayAll before pieces said →
+pub sorted_out : (before : ℕ) (pieces : List (List ℕ)) (said : List JournalRecord) → SayAll before pieces said →
     IsPermutation (filter is_kept (map line_in pieces)) (hub_lines pieces said ++ entry_lines pieces said)
 sorted_out before [] [] all = IsPermutation-refl []
 sorted_out before [] (s ∷ said) all = absurd all
@@ -56,16 +57,20 @@ sorted_out before (p ∷ pieces) (AnEntry place e ∷ said) all =
     (IsPermutation-sym (hubs ++ l ∷ entries) (l ∷ (hubs ++ entries)) (IsPermutation-middle hubs l entries)))
 sorted_out before (p ∷ pieces) (Denial ∷ said) all =
     let l = line_in p in
-    same_then (filter is_kept (l ∷ map line_in pieces)) (filter is_kept (map line_in pieces)) (hub_lines pieces said ++ entry_lines pieces said) (keeps l (map line_in pieces) false (ap not all.0.says))
+    same_then (filter is_kept (l ∷ map line_in pieces)) (filter is_kept (map line_in pieces)) (hub_lines pieces said ++ entry_lines pieces said)
+    (keeps l (map line_in pieces) false (ap not all.0.says))
     (sorted_out (before + length p) pieces said all.1)
 
 -- ---- hubs
 
-pub count_hubs : (said : List Said) → count_by is_hub said ≡ length (hubs_of said)
+pub count_hubs : (said : List JournalRecord) → count_by is_hub said ≡ length (hubs_of said)
 count_hubs [] = refl
-count_hubs (Hub about ∷ said) = sum_by-cons (λ s. cond (is_hub s) 1 0) (Hub about) said ∙ (let more = count_hubs said in let same : 1 + count_by is_hub said ≡ suc (length (hubs_of said)) = omega (arith, more) in same)
-count_hubs (AnEntry place e ∷ said) = sum_by-cons (λ s. cond (is_hub s) 1 0) (AnEntry place e) said ∙ (let more = count_hubs said in let same : 0 + count_by is_hub said ≡ length (hubs_of said) = omega (arith, more) in same)
-count_hubs (Denial ∷ said) = sum_by-cons (λ s. cond (is_hub s) 1 0) Denial said ∙ (let more = count_hubs said in let same : 0 + count_by is_hub said ≡ length (hubs_of said) = omega (arith, more) in same)
+count_hubs (Hub about ∷ said) = sum_by-cons (λ s. cond (is_hub s) 1 0) (Hub about) said
+    ∙ (let more = count_hubs said in let same : 1 + count_by is_hub said ≡ suc (length (hubs_of said)) = omega (arith, more) in same)
+count_hubs (AnEntry place e ∷ said) = sum_by-cons (λ s. cond (is_hub s) 1 0) (AnEntry place e) said
+    ∙ (let more = count_hubs said in let same : 0 + count_by is_hub said ≡ length (hubs_of said) = omega (arith, more) in same)
+count_hubs (Denial ∷ said) = sum_by-cons (λ s. cond (is_hub s) 1 0) Denial said
+    ∙ (let more = count_hubs said in let same : 0 + count_by is_hub said ≡ length (hubs_of said) = omega (arith, more) in same)
 
 -- where one hub is said, it is the last
 pub one_hub : (hubs : List About) (about : About) → length hubs ≡ 1 → last_or None hubs ≡ Some about → hubs ≡ about ∷ []
@@ -87,7 +92,7 @@ pub record AreHubLines (ls : List (List ℕ)) (about : About) : Type 0 where
   pub alone : ls ≡ line ∷ []
   pub says : IsHubLine line about
 
-none_left : (before : ℕ) (pieces : List (List ℕ)) (said : List Said) → SayAll before pieces said → hubs_of said ≡ [] → hub_lines pieces said ≡ []
+none_left : (before : ℕ) (pieces : List (List ℕ)) (said : List JournalRecord) → SayAll before pieces said → hubs_of said ≡ [] → hub_lines pieces said ≡ []
 none_left before [] [] all none = refl
 none_left before [] (s ∷ said) all none = absurd all
 none_left before (p ∷ pieces) [] all none = absurd all
@@ -99,7 +104,7 @@ first_about : About → List About → About
 first_about a [] = a
 first_about a (b ∷ bs) = b
 
-pub one_hub_line : (before : ℕ) (pieces : List (List ℕ)) (said : List Said) (about : About) → SayAll before pieces said → hubs_of said ≡ about ∷ [] → AreHubLines (hub_lines pieces said) about
+pub one_hub_line : (before : ℕ) (pieces : List (List ℕ)) (said : List JournalRecord) (about : About) → SayAll before pieces said → hubs_of said ≡ about ∷ [] → AreHubLines (hub_lines pieces said) about
 unfolding first_about
 one_hub_line before [] [] about all one = absurd (let no : [] ≡ about ∷ [] = one in cc)
 one_hub_line before [] (s ∷ said) about all one = absurd all
@@ -130,7 +135,7 @@ first_line : List ℕ → List (List ℕ) → List ℕ
 first_line l [] = l
 first_line l (m ∷ ms) = m
 
-pub spots_of_entries : (o : List ℕ) (before : ℕ) (pieces : List (List ℕ)) (said : List Said) (spots : List Spot) → SayAll before pieces said →
+pub spots_of_entries : (o : List ℕ) (before : ℕ) (pieces : List (List ℕ)) (said : List JournalRecord) (spots : List Spot) → SayAll before pieces said →
     map place_of spots ≡ places_of said → map (line_at o) spots ≡ entry_lines pieces said → AllByRecursion (IsSpotOfOne o) spots
 unfolding first_number first_line
 spots_of_entries o before [] [] [] all places lines = tt

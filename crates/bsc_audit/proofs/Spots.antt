@@ -1,10 +1,11 @@
 -- Where a line stands within the octets that were read.
+-- It serves clauses of functions of `auditing`, `hearing`, `judging` and `taking`.
 use Rattle.std.proofs.Common.{◌≡◌, ℕ, ◌+◌, ◌≤◌, List, [], ◌∷◌, ◌++◌, length, take, drop, map, refl, ap, sym, ◌∙◌, arith, length-drop, length-take}
 use Rattle.std.proofs.lemmas.List.{drop-append-le, drop-take, take-append-le, take-take, length-take-le}
 use Rattle.bsc_text.specs.Lines.{line_in}
 use Rattle.bsc_text.proofs.Reading.{take_line_in}
-use Rattle.bsc_journal.specs.declared.said.Said.{Said}
-use Rattle.bsc_journal.specs.declared.said.Said.TheVariants.{Hub, Entry as AnEntry, Denial}
+use Rattle.bsc_journal.specs.declared.journal_record.JournalRecord.{JournalRecord}
+use Rattle.bsc_journal.specs.declared.journal_record.JournalRecord.TheVariants.{Hub, Entry as AnEntry, Denial}
 use Rattle.bsc_audit.specs.Hearing.{entry_lines, line_at, part, spots_of}
 
 -- a part is as long as its ends are apart
@@ -46,7 +47,7 @@ line_stays o more from to order within =
     ∙ take_line_in p
 
 -- the lines at the spots of what a piece says
-pub spots_told : (o more : List ℕ) (from to end : ℕ) (s : Said) → from ≤ to → to ≤ length o → end ≡ from + length (line_in (part o from to)) →
+pub spots_told : (o more : List ℕ) (from to end : ℕ) (s : JournalRecord) → from ≤ to → to ≤ length o → end ≡ from + length (line_in (part o from to)) →
     map (line_at (o ++ more)) (spots_of from end s) ≡ entry_lines (part o from to ∷ []) (s ∷ [])
 spots_told o more from to end (Hub about) order within is = refl
 spots_told o more from to end (AnEntry place e) order within is =

@@ -1,4 +1,5 @@
 -- Reading that ends before the octets of a source do, and that which doesn't.
+-- It serves the clauses of `audit_explained`, `read_more` and `take_in`.
 use Rattle.std.proofs.Common.{◌≡◌, ℕ, List, [], ◌++◌, Option, Some, None, Result, Ok, Err, IfOk, IfErr, inl, inr, ⊎_elim, ◌⊎◌, refl, ap, sym, ◌∙◌, subst, append_assoc, append-nil}
 use Rattle.std.specs.Io.KnownBytes.{Consumes, IsAtEnd}
 use Rattle.bsc_audit.specs.declared.audit_end.AuditEnd.{AuditEnd}

@@ -1,4 +1,5 @@
 -- What reads gave, one after another, and what an audit that stops says of that.
+-- It serves the clauses of `audit_explained`, `read_more` and `take_in`.
 use Rattle.std.proofs.Common.{◌≡◌, ◌<◌, ◌||◌, ℕ, Bool, true, false, List, [], ◌∷◌, ◌++◌, length, Option, Some, Result, Err, refl, ap, sym, ◌∙◌, subst, append-nil, arith}
 use Rattle.std.specs.List.{concat}
 use Rattle.std.proofs.lemmas.List.Folds.{concat-append}

@@ -1,10 +1,11 @@
 -- Good pieces are within the limits.
+-- It serves the clauses of `audit_explained` and `judge`.
 use Rattle.std.proofs.Common.{◌≡◌, ℕ, ◌+◌, ◌≤◌, Bool, true, nat_le, nat_lt, List, [], ◌∷◌, length, map, refl, arith, length-append}
 use Rattle.std.specs.Prelude.{IsTrue}
 use Rattle.std.specs.List.{list_all}
 use Rattle.std.proofs.lemmas.Bool.{and_from, le-leb, ltb-false, or_parts}
 use Rattle.bsc_text.specs.Lines.{line_in, pieces_of}
-use Rattle.bsc_journal.specs.declared.said.Said.{Said}
+use Rattle.bsc_journal.specs.declared.journal_record.JournalRecord.{JournalRecord}
 use Rattle.bsc_journal.specs.Journals.{is_within, most_in_line, most_octets}
 use Rattle.bsc_journal.specs.Good.{SayAll}
 use Rattle.bsc_audit.proofs.Snoc.{flat}
@@ -13,7 +14,7 @@ use Rattle.bsc_audit.proofs.Snoc.{flat}
 abbrev pub is_short_line : List ℕ → Bool
 is_short_line l = nat_le (length l) most_in_line
 
-pub lines_within : (before : ℕ) (pieces : List (List ℕ)) (said : List Said) → SayAll before pieces said → list_all is_short_line (map line_in pieces) ≡ true
+pub lines_within : (before : ℕ) (pieces : List (List ℕ)) (said : List JournalRecord) → SayAll before pieces said → list_all is_short_line (map line_in pieces) ≡ true
 lines_within before [] [] all = refl
 lines_within before [] (s ∷ said) all = absurd all
 lines_within before (p ∷ pieces) [] all = absurd all
@@ -22,7 +23,7 @@ lines_within before (p ∷ pieces) (s ∷ said) all =
     and_from (is_short_line (line_in p)) (list_all is_short_line (map line_in pieces)) (le-leb (length (line_in p)) most_in_line (ltb-false most_in_line (length (line_in p)) fits.0))
     (lines_within (before + length p) pieces said all.1)
 
-pub octets_within : (before : ℕ) (pieces : List (List ℕ)) (said : List Said) → before ≤ most_octets → SayAll before pieces said → before + length (flat pieces) ≤ most_octets
+pub octets_within : (before : ℕ) (pieces : List (List ℕ)) (said : List JournalRecord) → before ≤ most_octets → SayAll before pieces said → before + length (flat pieces) ≤ most_octets
 octets_within before [] [] few all = omega (arith, few)
 octets_within before [] (s ∷ said) few all = absurd all
 octets_within before (p ∷ pieces) [] few all = absurd all
@@ -33,7 +34,7 @@ octets_within before (p ∷ pieces) (s ∷ said) few all =
     let long = length-append p (flat pieces) in
     omega (arith, more, long)
 
-pub say_within : (o : List ℕ) (said : List Said) → SayAll 0 (pieces_of o) said → length (flat (pieces_of o)) ≡ length o → IsTrue (is_within o)
+pub say_within : (o : List ℕ) (said : List JournalRecord) → SayAll 0 (pieces_of o) said → length (flat (pieces_of o)) ≡ length o → IsTrue (is_within o)
 say_within o said all long =
     let few = octets_within 0 (pieces_of o) said (let none : 0 ≤ most_octets = omega arith in none) all in
     and_from (nat_le (length o) most_octets) (list_all is_short_line (map line_in (pieces_of o)))

@@ -1,4 +1,5 @@
 -- Small journals, and what an audit of each comes to, worked by hand: A and B join a hub, and A sends to B.
+-- No clause needs it: worked examples.
 use Rattle.std.proofs.Common.{◌≡◌, inl, inr, ℕ, ◌<◌, List, [], ◌∷◌, ◌++◌, length, codes, decimal, refl, arith}
 use Rattle.std.specs.Prelude.{⊤}
 use Rattle.uuid.proofs.OnLiterals.{uuid_on_literals}
@@ -7,8 +8,8 @@ use Rattle.bsc_history.specs.declared.entry.Entry.{Entry}
 use Rattle.bsc_history.specs.Legality.{Legal}
 use Rattle.bsc_script.proofs.OnLiterals.{script_on_literals}
 use Rattle.bsc_audit.specs.declared.audit_end.AuditEnd.TheVariants.{Legal as IsLegal, BadLine, Hubs, Twice, Missing, Illegal}
-use Rattle.bsc_journal.specs.declared.said.Said.{Said}
-use Rattle.bsc_journal.specs.declared.said.Said.TheVariants.{Hub, Entry as AnEntry, Denial}
+use Rattle.bsc_journal.specs.declared.journal_record.JournalRecord.{JournalRecord}
+use Rattle.bsc_journal.specs.declared.journal_record.JournalRecord.TheVariants.{Hub, Entry as AnEntry, Denial}
 use Rattle.bsc_lines.specs.Lines.{entry_line}
 use Rattle.bsc_journal.specs.Saying.{HasLine, IsHubLine, IsLineOf}
 use Rattle.bsc_journal.specs.Journals.{Tells}
@@ -254,7 +255,7 @@ unfolding entry_line
 no_entry place e l = not_empty (decimal place) _ (some_digits place l.has.place_short) l.line
 
 -- An empty line says nothing.
-says_nothing : (s : Said) → IsGood 0 (codes "\n") s → ⊥
+says_nothing : (s : JournalRecord) → IsGood 0 (codes "\n") s → ⊥
 unfolding script_on_literals
 says_nothing (Hub about) g = let line = g.says.line in cc
 says_nothing (AnEntry place e) g = no_entry place e g.says

@@ -5,9 +5,9 @@ use Rattle.std.specs.List.{last_or}
 use Rattle.bsc_history.specs.declared.entry.Entry.{Entry}
 use Rattle.bsc_history.specs.declared.limits.About.{About}
 use Rattle.bsc_text.specs.Lines.{line_in, pieces_of}
-use Rattle.bsc_places.specs.declared.spot.Spot.{Spot}
-use Rattle.bsc_journal.specs.declared.said.Said.{Said}
-use Rattle.bsc_journal.specs.declared.said.Said.TheVariants.{Hub, Entry as AnEntry, Denial}
+use Rattle.bsc_audit.specs.declared.places.spot.Spot.{Spot}
+use Rattle.bsc_journal.specs.declared.journal_record.JournalRecord.{JournalRecord}
+use Rattle.bsc_journal.specs.declared.journal_record.JournalRecord.TheVariants.{Hub, Entry as AnEntry, Denial}
 use Rattle.bsc_journal.specs.Journals.{HaveLines, lines_from}
 use Rattle.bsc_journal.specs.Good.{IsGood, SayAll}
 use Rattle.bsc_audit.specs.declared.heard.Heard.{Heard}
@@ -16,14 +16,14 @@ use Rattle.bsc_audit.specs.Verdicts.{IsFirstBad, places_of}
 -- ---- what lines say
 
 -- the hubs of these, in order
-abbrev pub hubs_of : List Said → List About
+abbrev pub hubs_of : List JournalRecord → List About
 hubs_of [] = []
 hubs_of (Hub about ∷ said) = about ∷ hubs_of said
 hubs_of (AnEntry place e ∷ said) = hubs_of said
 hubs_of (Denial ∷ said) = hubs_of said
 
 -- the lines of those pieces that say a hub
-abbrev pub hub_lines : List (List ℕ) → List Said → List (List ℕ)
+abbrev pub hub_lines : List (List ℕ) → List JournalRecord → List (List ℕ)
 hub_lines [] said = []
 hub_lines (piece ∷ pieces) [] = []
 hub_lines (piece ∷ pieces) (Hub about ∷ said) = line_in piece ∷ hub_lines pieces said
@@ -31,7 +31,7 @@ hub_lines (piece ∷ pieces) (AnEntry place e ∷ said) = hub_lines pieces said
 hub_lines (piece ∷ pieces) (Denial ∷ said) = hub_lines pieces said
 
 -- the lines of those that say an entry
-abbrev pub entry_lines : List (List ℕ) → List Said → List (List ℕ)
+abbrev pub entry_lines : List (List ℕ) → List JournalRecord → List (List ℕ)
 entry_lines [] said = []
 entry_lines (piece ∷ pieces) [] = []
 entry_lines (piece ∷ pieces) (Hub about ∷ said) = entry_lines pieces said
@@ -49,7 +49,7 @@ abbrev pub part : List ℕ → ℕ → ℕ → List ℕ
 part o from to = drop from (take to o)
 
 -- the spot of an entry's line that stands from one place to another
-abbrev pub spots_of : ℕ → ℕ → Said → List Spot
+abbrev pub spots_of : ℕ → ℕ → JournalRecord → List Spot
 spots_of from to (Hub about) = []
 spots_of from to (AnEntry place e) = record { place = place; start = from; end = to } ∷ []
 spots_of from to Denial = []
@@ -57,7 +57,7 @@ spots_of from to Denial = []
 -- ---- what was heard
 
 -- What the next line says is added, which ends at `end`; the one after it begins at `next`.
-pub record Adds (old new : Heard) (s : Said) (end next : ℕ) : Type 0 where
+pub record Adds (old new : Heard) (s : JournalRecord) (end next : ℕ) : Type 0 where
   pub at : new.at ≡ next
   pub lines : new.lines ≡ old.lines + 1
   pub hubs : new.hubs ≡ old.hubs + length (hubs_of (s ∷ []))
@@ -66,12 +66,12 @@ pub record Adds (old new : Heard) (s : Said) (end next : ℕ) : Type 0 where
 
 -- The next piece of these octets, which ends at `next`, is good, and what it says is added.
 pub record HearsPiece (o : List ℕ) (old new : Heard) (next : ℕ) : Type 0 where
-  pub s : Said
+  pub s : JournalRecord
   pub good : IsGood old.at (part o old.at next) s
   pub adds : Adds old new s (old.at + length (line_in (part o old.at next))) next
 
 -- What pieces came to: all of them are good, and this is what they say.
-pub record Heeds (o : List ℕ) (h : Heard) (pieces : List (List ℕ)) (said : List Said) : Type 0 where
+pub record Heeds (o : List ℕ) (h : Heard) (pieces : List (List ℕ)) (said : List JournalRecord) : Type 0 where
   pub all : SayAll 0 pieces said
   pub long : length (flat_map (λ piece. piece) pieces) ≡ h.at
   pub lines : h.lines ≡ length pieces
@@ -83,14 +83,14 @@ pub record Heeds (o : List ℕ) (h : Heard) (pieces : List (List ℕ)) (said : L
 -- The first pieces of these octets were heard, and the rest begins a new piece, whatever follows.
 pub record HasHeard (o : List ℕ) (h : Heard) : Type 0 where
   pub pieces : List (List ℕ)
-  pub said : List Said
+  pub said : List JournalRecord
   pub heeds : Heeds o h pieces said
   pub within : h.at ≤ length o
   pub cut : (more : List ℕ) → pieces_of (o ++ more) ≡ pieces ++ pieces_of (drop h.at o ++ more)
 
 -- All pieces of these octets were heard.
 pub record HasHeardAll (o : List ℕ) (h : Heard) : Type 0 where
-  pub said : List Said
+  pub said : List JournalRecord
   pub heeds : Heeds o h (pieces_of o) said
   pub whole : h.at ≡ length o
 

@@ -3,3 +3,4 @@ pub mod Hearing
 pub mod Taking
 pub mod Judging
 pub mod Explaining
+pub mod Places

@@ -5,11 +5,11 @@ use Rattle.bsc_history.specs.declared.limits.About.{About}
 use Rattle.bsc_history.specs.Legality.{Legal}
 use Rattle.bsc_text.specs.Lines.{pieces_of}
 use Rattle.bsc_player.specs.Ends.{Taken}
-use Rattle.bsc_places.specs.Places.{IsLeastMissing, IsLeastTwice}
+use Rattle.bsc_audit.specs.Places.Places.{IsLeastMissing, IsLeastTwice}
 use Rattle.bsc_audit.specs.declared.audit_end.AuditEnd.{AuditEnd}
 use Rattle.bsc_audit.specs.declared.audit_end.AuditEnd.TheVariants.{Legal as IsLegal, BadLine, Hubs, Twice, Missing, Illegal, ReadFault, NoMemory}
-use Rattle.bsc_journal.specs.declared.said.Said.{Said}
-use Rattle.bsc_journal.specs.declared.said.Said.TheVariants.{Hub, Entry as AnEntry, Denial}
+use Rattle.bsc_journal.specs.declared.journal_record.JournalRecord.{JournalRecord}
+use Rattle.bsc_journal.specs.declared.journal_record.JournalRecord.TheVariants.{Hub, Entry as AnEntry, Denial}
 use Rattle.bsc_journal.specs.Journals.{Audited, Tells, is_within}
 use Rattle.bsc_journal.specs.Good.{IsGood, SayAll}
 
@@ -22,20 +22,20 @@ pub record IsFirstBad (n : ℕ) (o : List ℕ) : Type 0 where
   pub rest : List (List ℕ)
   pub pieces : pieces_of o ≡ good ++ bad ∷ rest
   pub number : n ≡ length good + 1
-  pub said : List Said
+  pub said : List JournalRecord
   pub before : SayAll 0 good said
-  pub refused : (s : Said) → IsGood (length (flat_map (λ piece. piece) good)) bad s → ⊥
+  pub refused : (s : JournalRecord) → IsGood (length (flat_map (λ piece. piece) good)) bad s → ⊥
 
 -- ---- hub lines and places
 
 -- whether this is a hub
-abbrev pub is_hub : Said → Bool
+abbrev pub is_hub : JournalRecord → Bool
 is_hub (Hub about) = true
 is_hub (AnEntry place e) = false
 is_hub Denial = false
 
 -- the places of the entries among these, in order
-abbrev pub places_of : List Said → List ℕ
+abbrev pub places_of : List JournalRecord → List ℕ
 places_of [] = []
 places_of (Hub about ∷ said) = places_of said
 places_of (AnEntry place e ∷ said) = place ∷ places_of said
@@ -53,13 +53,13 @@ pub record IsLeastIllegal (p : ℕ) (o : List ℕ) : Type 0 where
 -- ---- the verdict
 
 -- All lines of the octets are good, and say these things, with one hub among them.
-pub record SayOneHub (o : List ℕ) (said : List Said) : Type 0 where
+pub record SayOneHub (o : List ℕ) (said : List JournalRecord) : Type 0 where
   pub all : SayAll 0 (pieces_of o) said
   pub one : count_by is_hub said ≡ 1
 
 -- There isn't one hub line but n.
 pub record HasHubs (n : ℕ) (o : List ℕ) : Type 0 where
-  pub said : List Said
+  pub said : List JournalRecord
   pub all : SayAll 0 (pieces_of o) said
   pub count : n ≡ count_by is_hub said
   pub other : n ≢ 1
@@ -71,8 +71,8 @@ abbrev pub AuditsTo : List ℕ → AuditEnd → Type 0
 AuditsTo o (IsLegal entries) = Audited o entries
 AuditsTo o (BadLine line) = IsFirstBad line o
 AuditsTo o (Hubs lines) = HasHubs lines o
-AuditsTo o (Twice place) = (said : List Said) × SayOneHub o said × IsLeastTwice place (places_of said)
-AuditsTo o (Missing place) = (said : List Said) × SayOneHub o said × IsLeastMissing place (places_of said)
+AuditsTo o (Twice place) = (said : List JournalRecord) × SayOneHub o said × IsLeastTwice place (places_of said)
+AuditsTo o (Missing place) = (said : List JournalRecord) × SayOneHub o said × IsLeastMissing place (places_of said)
 AuditsTo o (Illegal place) = IsTrue (is_within o) × IsLeastIllegal place o
 AuditsTo o ReadFault = ⊤
 AuditsTo o NoMemory = ⊤

@@ -2,8 +2,8 @@
 ghost use Rattle.std.specs.Prelude.{◌≤◌};
 ghost use Rattle.bsc_journal.specs.declared.bounds.TheConstants.{MOST_IN_ALL};
 
+use crate::places::Spot;
 use bsc_history::About;
-use bsc_places::Spot;
 
 /// What the lines came to that were heard so far.
 #[derive(Drop)]

@@ -1,17 +1,17 @@
 //! Hearing what lines say.
 ghost use Rattle.std.specs.Prelude.{◌≡◌, ◌≤◌, ◌<◌, ◌+◌, [], length, drop, true, OnOk, Ok, Err};
 ghost use Rattle.bsc_text.specs.Lines.{has_no_lf};
-ghost use Rattle.bsc_journal.specs.declared.said.Said.{Said as SaidOf};
+ghost use Rattle.bsc_journal.specs.declared.journal_record.JournalRecord.{JournalRecord as SaidOf};
 ghost use Rattle.bsc_journal.specs.Good.{IsGood};
 ghost use Rattle.bsc_audit.specs.Hearing.{Adds, HasHeard, HasHeardAll, HearsPiece, IsBadAnyhow, part};
 ghost use Rattle.bsc_audit.specs.Verdicts.{IsFirstBad};
 
 use crate::cutting::{after, between, cannot_fit, is_too_big};
 use crate::heard::Heard;
+use crate::places::Spot;
 use crate::room::room_for_one;
-use bsc_journal::{MOST_IN_ALL, Said, read_said};
+use bsc_journal::{JournalRecord, MOST_IN_ALL, read_said};
 use bsc_octets::NoMemory;
-use bsc_places::Spot;
 use bsc_player::LineFault;
 use bsc_text::{first_lf, line_in};
 use std::alloc::Global;
@@ -30,7 +30,7 @@ pub(crate) fn nothing_heard(alloc: Global) -> Heard
 }
 
 /// Adds what the next line says. It ends at `end`, and the one after it begins at `next`.
-fn add(heard: &mut Heard, said: Said, end: usize, next: usize) -> Result<(), NoMemory>
+fn add(heard: &mut Heard, said: JournalRecord, end: usize, next: usize) -> Result<(), NoMemory>
     requires after { heard.old.at < next }
     requires within { end ≤ next }
     requires fits { next ≤ MOST_IN_ALL }
@@ -40,12 +40,12 @@ fn add(heard: &mut Heard, said: Said, end: usize, next: usize) -> Result<(), NoM
     heard.at = next;
     heard.lines += 1;
     match &said {
-        Said::Hub(about) => {
+        JournalRecord::Hub(about) => {
             heard.hubs += 1;
             heard.about = Some(*about);
             Ok(())
         }
-        Said::Entry { place, .. } => {
+        JournalRecord::Entry { place, .. } => {
             room_for_one(&mut heard.spots)?;
             heard.spots.push(Spot {
                 place: *place,
@@ -54,7 +54,7 @@ fn add(heard: &mut Heard, said: Said, end: usize, next: usize) -> Result<(), NoM
             })?;
             Ok(())
         }
-        Said::Denial => Ok(()),
+        JournalRecord::Denial => Ok(()),
     }
 }
 

@@ -14,6 +14,7 @@ ghost use Rattle.bsc_audit.specs.Verdicts.{AuditsTo};
 use crate::audit_end::AuditEnd;
 use crate::cutting::{after, between};
 use crate::heard::Heard;
+use crate::places::{Spot, least_missing, least_twice, sort_by_place};
 use crate::reasons::{reason_of_entry, reason_of_hubs, reason_of_missing, reason_of_twice};
 use crate::taking::Journals;
 use crate::verdict::Verdict;
@@ -21,7 +22,6 @@ use bsc_history::{About, Entry};
 use bsc_journal::read_entry;
 use bsc_legality::{Breach, Legality};
 use bsc_octets::{NoMemory, Octets};
-use bsc_places::{Spot, least_missing, least_twice, sort_by_place};
 use std::alloc::Global;
 
 /// The line at a spot.

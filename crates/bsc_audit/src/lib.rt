@@ -13,6 +13,7 @@ mod cutting;
 mod heard;
 mod hearing;
 mod judging;
+mod places;
 mod reasons;
 mod room;
 mod taking;

@@ -2,11 +2,11 @@
 ghost use Rattle.std.specs.Prelude.{◌≡◌, ◌<◌, ℕ, IfSome};
 ghost use Rattle.bsc_audit_diagnostics.specs.Reasons.{TellsHubs, TellsIllegal, TellsMissing, TellsTwice};
 
+use crate::places::Spot;
 use bsc_audit_diagnostics::{why_hubs, why_illegal, why_missing, why_twice};
 use bsc_history::Entry;
 use bsc_legality::Breach;
 use bsc_octets::{NoMemory, Octets};
-use bsc_places::Spot;
 use std::alloc::Global;
 
 /// Of hub lines.

@@ -1,8 +1,8 @@
 //! Room in a vector, made by steps.
 ghost use Rattle.std.specs.Prelude.{◌≡◌};
 
+use crate::places::Spot;
 use bsc_octets::NoMemory;
-use bsc_places::Spot;
 
 /// How much a vector grows by at least: a part of this of what it has. So what grows by steps takes at most a little
 /// more than its octets, where a vector that doubles takes twice of them, and thrice while it is copied.

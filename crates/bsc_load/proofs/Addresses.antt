@@ -1,4 +1,5 @@
 -- Two peers have two addresses.
+-- It serves clauses of functions of `passes`, `storm`, `worker` and `workload`.
 use Rattle.std.proofs.Common.{◌≡◌, ◌≢◌, ℕ, ◌+◌, ◌*◌, ◌<◌, [], drop, ap, sym, ◌∙◌, arith, append-nil}
 use Rattle.byteorder.specs.Endian.{big_bytes, big_number}
 use Rattle.bsc_octets.specs.declared.vmac.Vmac.{Vmac}

@@ -1,5 +1,7 @@
 -- What entered all outboxes of a legal history together is what its counts name as appended.
-use Rattle.std.proofs.Common.{◌≡◌, ◌≢◌, ◌≤◌, ◌<◌, ◌+◌, inl, inr, ℕ, zero, suc, ◌==◌, Bool, true, false, not, ◌&&◌, ◌||◌, cond, List, [], ◌∷◌, ◌++◌, length, drop, get_or, filter, find, Option, Some, None, MatchOption, is_none, option_to_list, refl, ap, sym, ◌∙◌, subst, arith, append-nil, length-append, add-zero}
+-- It serves the clauses of `appended_is_sent` and `run`.
+use Rattle.std.proofs.Common.{◌≡◌, ◌≢◌, ◌≤◌, ◌<◌, ◌+◌, inl, inr, ℕ, zero, suc, ◌==◌, Bool, true, false, not, ◌&&◌, ◌||◌, cond, List, [], ◌∷◌, ◌++◌, length, drop, get_or, filter}
+use Rattle.std.proofs.Common.{find, Option, Some, None, MatchOption, is_none, option_to_list, refl, ap, sym, ◌∙◌, subst, arith, append-nil, length-append, add-zero}
 use Rattle.std.specs.Prelude.{nat_le}
 use Rattle.std.specs.List.{AllByRecursion, count_by, range_with_len, sum_by}
 use Rattle.std.proofs.lemmas.Bool.{eq-eqb, eqb-true, ne_eqb}
@@ -102,7 +104,8 @@ once_there (y ∷ ys) a (suc n) x are (inl e) =
 once_there (y ∷ ys) a (suc n) x are (inr m) =
     let first : y.number ≡ a = ap (λ (l : List ℕ). get_or l 0 0) are in
     let later : a + 1 ≤ x.number = above ys (a + 1) n x (ap (λ (l : List ℕ). drop 1 l) are) m in
-    sum_by-cons (λ (z : Connection). cond (x.number == z.number) 1 0) y ys ∙ ap (λ (b : Bool). cond b 1 0 + count_by (λ z. x.number == z.number) ys) (ne_eqb x.number y.number (λ e. absurd (omega (arith, e, first, later))))
+    sum_by-cons (λ (z : Connection). cond (x.number == z.number) 1 0) y ys
+    ∙ ap (λ (b : Bool). cond b 1 0 + count_by (λ z. x.number == z.number) ys) (ne_eqb x.number y.number (λ e. absurd (omega (arith, e, first, later))))
     ∙ zero_add (count_by (λ z. x.number == z.number) ys) ∙ once_there ys (a + 1) n x (ap (λ (l : List ℕ). drop 1 l) are) m
 
 -- numbers that are named, each once
@@ -112,7 +115,8 @@ not_among [] n c apart same = refl
 not_among (y ∷ ys) n c apart same =
     ap (λ (b : Bool). b || is_among c (numbers ys)) (ne_eqb y.number c (λ e. absurd (apart.0 (same ∙ sym e)))) ∙ not_among ys n c apart.1 same
 
-among_once : (xs ys : List Connection) → ((y : Connection) → In y ys → count_by (λ x. y.number == x.number) xs ≡ 1) → Apart (λ (c : Connection). c.number) ys → count_by (λ x. is_among x.number (numbers ys)) xs ≡ length ys
+among_once : (xs ys : List Connection) → ((y : Connection) → In y ys → count_by (λ x. y.number == x.number) xs ≡ 1) → Apart (λ (c : Connection). c.number) ys
+    → count_by (λ x. is_among x.number (numbers ys)) xs ≡ length ys
 among_once xs [] each apart = none_counted xs
 among_once xs (y ∷ ys) each apart =
     count_or (λ (x : Connection). y.number == x.number) (λ (x : Connection). is_among x.number (numbers ys)) xs (λ x h. not_among ys y.number x.number apart.0 (eqb-true y.number x.number h))
@@ -134,7 +138,8 @@ module _ (a : About) (G : List Entry) (legal : Legal a G) where
   live_once : (y : Connection) → In y (live G) → count_by (λ x. y.number == x.number) (joined G) ≡ 1
   live_once y m = once_there (joined G) 1 (length (joined G)) y (settled a G legal).numbered (joined_in (λ c after. is_none (first_end c after)) G y m)
 
-  named_all : (sender : ℕ) (m o : List ℕ) (looks : List Look) → count_by (λ x. names x.number (broadcast_reply a G o looks (meant G sender m))) (joined G) ≡ appended_in (broadcast_reply a G o looks (meant G sender m))
+  named_all : (sender : ℕ) (m o : List ℕ) (looks : List Look) → count_by (λ x. names x.number (broadcast_reply a G o looks (meant G sender m))) (joined G)
+      ≡ appended_in (broadcast_reply a G o looks (meant G sender m))
   named_all sender m o looks =
       let q = λ (c : Connection). not (is_too_long o c) && not (is_found_full a (sent a G c.number) looks c.number) in
       let ys = filter q (meant G sender m) in
@@ -142,12 +147,17 @@ module _ (a : About) (G : List Entry) (legal : Legal a G) where
       (Apart-filter (λ (c : Connection). c.number) q (meant G sender m) (Apart-filter (λ (c : Connection). c.number) (means m sender) (live G) (live_numbers a G legal)))
       ∙ sym (length_numbers ys)
 
-  named_one : (m o : List ℕ) (looks : List Look) (r : Option Connection) → ((c : Connection) → r ≡ Some c → In c (live G)) → count_by (λ x. names x.number (unicast_reply a G m o looks r)) (joined G) ≡ appended_in (unicast_reply a G m o looks r)
+  named_one : (m o : List ℕ) (looks : List Look) (r : Option Connection) → ((c : Connection) → r ≡ Some c → In c (live G))
+      → count_by (λ x. names x.number (unicast_reply a G m o looks r)) (joined G) ≡ appended_in (unicast_reply a G m o looks r)
   named_one m o looks None there = none_counted (joined G)
   named_one m o looks (Some c) there =
-      let by : (l f : Bool) → count_by (λ x. names x.number (cond l (Skipped c.number) (cond f (Closed c.number) (Appended c.number)))) (joined G) ≡ appended_in (cond l (Skipped c.number) (cond f (Closed c.number) (Appended c.number))) = λ l f. elim l as (λ l. count_by (λ x. names x.number (cond l (Skipped c.number) (cond f (Closed c.number) (Appended c.number)))) (joined G) ≡ appended_in (cond l (Skipped c.number) (cond f (Closed c.number) (Appended c.number)))) [
+      let by : (l f : Bool) → count_by (λ x. names x.number (cond l (Skipped c.number) (cond f (Closed c.number) (Appended c.number)))) (joined G)
+      ≡ appended_in (cond l (Skipped c.number) (cond f (Closed c.number) (Appended c.number))) =
+      λ l f. elim l as (λ l. count_by (λ x. names x.number (cond l (Skipped c.number) (cond f (Closed c.number) (Appended c.number)))) (joined G)
+      ≡ appended_in (cond l (Skipped c.number) (cond f (Closed c.number) (Appended c.number)))) [
         | true ↦ none_counted (joined G)
-        | false ↦ elim f as (λ f. count_by (λ x. names x.number (cond f (Closed c.number) (Appended c.number))) (joined G) ≡ appended_in (cond f (Closed c.number) (Appended c.number))) [ true ↦ none_counted (joined G) | false ↦ live_once c (there c refl) ]
+        | false ↦ elim f as (λ f. count_by (λ x. names x.number (cond f (Closed c.number) (Appended c.number))) (joined G)
+            ≡ appended_in (cond f (Closed c.number) (Appended c.number))) [ true ↦ none_counted (joined G) | false ↦ live_once c (there c refl) ]
       ] in
       by (is_too_long o c) (is_found_full a (sent a G c.number) looks c.number)
 
@@ -157,7 +167,8 @@ module _ (a : About) (G : List Entry) (legal : Legal a G) where
       let o = out_of G sender m in
       let P = λ (r : Reply). count_by (λ x. names x.number r) (joined G) ≡ appended_in r in
       let held : (c : Connection) → holder G (destination m) ≡ Some c → In c (live G) = λ c e. holder_live G (λ c. same_vmac c.who.vmac (destination m)) c e in
-      let body : (b : Bool) → P (cond b (broadcast_reply a G o looks (meant G sender m)) (unicast_reply a G m o looks (holder G (destination m)))) = λ b. elim b as (λ b. P (cond b (broadcast_reply a G o looks (meant G sender m)) (unicast_reply a G m o looks (holder G (destination m))))) [
+      let body : (b : Bool) → P (cond b (broadcast_reply a G o looks (meant G sender m)) (unicast_reply a G m o looks (holder G (destination m)))) =
+      λ b. elim b as (λ b. P (cond b (broadcast_reply a G o looks (meant G sender m)) (unicast_reply a G m o looks (holder G (destination m))))) [
         | true ↦ named_all sender m o looks
         | false ↦ named_one m o looks (holder G (destination m)) held
       ] in
@@ -172,11 +183,13 @@ connect_appends_none : (a : About) (G : List Entry) (who : Identity) → appende
 unfolding connect_reply
 connect_appends_none a G who =
     let P = λ (r : Reply). appended_in r ≡ 0 in
-    let rows : (b : Bool) (n : ℕ) (o : Option ℕ) → P (cond b (Refused (TableFull a.limits.rows)) (Joined n o)) = λ b n o. elim b as (λ b. P (cond b (Refused (TableFull a.limits.rows)) (Joined n o))) [ true ↦ refl | false ↦ refl ] in
+    let rows : (b : Bool) (n : ℕ) (o : Option ℕ) → P (cond b (Refused (TableFull a.limits.rows)) (Joined n o)) =
+    λ b n o. elim b as (λ b. P (cond b (Refused (TableFull a.limits.rows)) (Joined n o))) [ true ↦ refl | false ↦ refl ] in
     let held : (o : Option ℕ) (r : Reply) → P r → P (refused_as_held o r) = λ o r p. elim o as (λ o. P (refused_as_held o r)) [ None ↦ p | Some k ↦ refl ] in
     let own : (b : Bool) (r : Reply) → P r → P (cond b (Refused (Duplicate None)) r) = λ b r p. elim b as (λ b. P (cond b (Refused (Duplicate None)) r)) [ true ↦ refl | false ↦ p ] in
     let stopped : (b : Bool) (r : Reply) → P r → P (cond b (Refused RefusedStopped) r) = λ b r p. elim b as (λ b. P (cond b (Refused RefusedStopped) r)) [ true ↦ refl | false ↦ p ] in
-    stopped (is_stopped G) _ (own (same_vmac who.vmac a.hub.vmac) _ (held (rival who (holder G who.vmac)) _ (rows (nat_le a.limits.rows (length (unleft G))) (1 + length (joined G)) (number_of (of_device G who.device)))))
+    stopped (is_stopped G) _ (own (same_vmac who.vmac a.hub.vmac) _ (held (rival who (holder G who.vmac)) _
+    (rows (nat_le a.limits.rows (length (unleft G))) (1 + length (joined G)) (number_of (of_device G who.device)))))
 
 abbrev lengths : About → List Entry → Connection → ℕ
 lengths a G x = length (sent a G x.number)
@@ -190,8 +203,10 @@ module _ (a : About) (G : List Entry) (e : Entry) (legal : Legal a G) (lawful : 
   sent_same none c = sent-more a G e c ∙ ap (λ (l : List (List ℕ)). sent a G c ++ l) (none c) ∙ append-nil (sent a G c)
 
   -- who joins has an empty outbox
-  joins_empty : (o : Option Connection) → connection_of e ≡ o → ((c : ℕ) → sent a (G ++ e ∷ []) c ≡ sent a G c) → sum_by (lengths a (G ++ e ∷ [])) (joined G ++ option_to_list o) ≡ sum_by (lengths a G) (joined G)
-  joins_empty None is same = ap (sum_by (lengths a (G ++ e ∷ []))) (append-nil (joined G)) ∙ sum_same (lengths a (G ++ e ∷ [])) (lengths a G) (joined G) (λ x. ap (λ (l : List (List ℕ)). length l) (same x.number))
+  joins_empty : (o : Option Connection) → connection_of e ≡ o → ((c : ℕ) → sent a (G ++ e ∷ []) c ≡ sent a G c)
+      → sum_by (lengths a (G ++ e ∷ [])) (joined G ++ option_to_list o) ≡ sum_by (lengths a G) (joined G)
+  joins_empty None is same = ap (sum_by (lengths a (G ++ e ∷ []))) (append-nil (joined G))
+      ∙ sum_same (lengths a (G ++ e ∷ [])) (lengths a G) (joined G) (λ x. ap (λ (l : List (List ℕ)). length l) (same x.number))
   joins_empty (Some x) is same =
       let next = (comes a G e x lawful is).0 in
       let fresh : sent a G x.number ≡ [] = fresh_sent a G x.number legal (omega (arith, next)) in
@@ -216,7 +231,8 @@ module _ (a : About) (G : List Entry) (e : Entry) (legal : Legal a G) (lawful : 
       let grows : (x : Connection) → lengths a H x ≡ lengths a G x + cond (names x.number e.reply) 1 0 = λ x.
       ap (λ (l : List (List ℕ)). length l) (sent-more a G e x.number ∙ ap (λ (l : List (List ℕ)). sent a G x.number ++ l) (adds_as_named a G legal e sender m x.number lawful is))
       ∙ length-append (sent a G x.number) (cond (names x.number e.reply) (o ∷ []) []) ∙ ap (λ (n : ℕ). lengths a G x + n) (one (names x.number e.reply)) in
-      let count : count_by (λ x. names x.number e.reply) (joined G) ≡ appended_in e.reply = subst (λ (q : Reply). count_by (λ x. names x.number q) (joined G) ≡ appended_in q) (sym r) (named_count a G legal sender m e.looks) in
+      let count : count_by (λ x. names x.number e.reply) (joined G) ≡ appended_in e.reply =
+      subst (λ (q : Reply). count_by (λ x. names x.number q) (joined G) ≡ appended_in q) (sym r) (named_count a G legal sender m e.looks) in
       appended_more (appended_in e.reply) refl ∙ ap (λ (n : ℕ). n + appended_in e.reply) before ∙ ap (λ (n : ℕ). sum_by (lengths a G) (joined G) + n) (sym count)
       ∙ sym (sum_of_both (lengths a H) (lengths a G) (λ (x : Connection). cond (names x.number e.reply) 1 0) (joined G) grows)
       ∙ sym (ap (sum_by (lengths a H)) (joined-more G e ∙ ap (λ (o : Option Connection). joined G ++ option_to_list o) none ∙ append-nil (joined G)))

@@ -1,4 +1,5 @@
 -- What a worker does from its receiver's connect to its receiver's leave.
+-- It serves clauses of functions of `passes`, `storm`, `worker` and `workload`.
 use Rattle.std.proofs.Common.{◌≡◌, ◌≤◌, ◌<◌, ◌+◌, inr, ℕ, List, [], ◌∷◌, ◌++◌, length, take, Result, Ok, Err, refl, ap, sym, ◌∙◌, arith, append-nil, length-append}
 use Rattle.std.proofs.lemmas.List.{length-map, map-append}
 use Rattle.std.proofs.lemmas.List.Elements.{Contains-push}
@@ -52,7 +53,8 @@ pub calls_between : (E : List Entry) (e l : Entry) → calls (e ∷ E ++ l ∷ [
 calls_between E e l = ap (λ (x : List Call). e.call ∷ x) (map-append (λ (x : Entry). x.call) E (l ∷ []))
 
 -- and who joined
-pub joined_between : (E : List Entry) (p q : Pass) (who : Identity) (j : Joined) (c : ℕ) (o : Outlet) (told : Told Gone) → joined (join_entry p who j ∷ E ++ leave_entry q c o told ∷ []) ≡ record { number = j.conn; caller = number_of p; who = who } ∷ joined E
+pub joined_between : (E : List Entry) (p q : Pass) (who : Identity) (j : Joined) (c : ℕ) (o : Outlet) (told : Told Gone)
+    → joined (join_entry p who j ∷ E ++ leave_entry q c o told ∷ []) ≡ record { number = j.conn; caller = number_of p; who = who } ∷ joined E
 unfolding joined_where
 joined_between E p q who j c o told =
     let x : Connection = record { number = j.conn; caller = number_of p; who = who } in
@@ -63,7 +65,8 @@ pub length_between : (E : List Entry) (e l : Entry) → length (e ∷ E ++ l ∷
 length_between E e l = (let k : length (E ++ l ∷ []) ≡ length E + 1 = length-append E (l ∷ []) in omega arith)
 
 -- the pass went on
-pub goes_between : (h : Hub) (p m n q : Pass) (E : List Entry) (who : Identity) (j : Joined) (c : ℕ) (o : Outlet) (told : Told Gone) → Passed h p [] (connect_made (number_of p) who (Ok j)) m → WorkerGoes h m E n → Passed h n [] (leave_made (number_of n) c (empties_of o) told) q →
+pub goes_between : (h : Hub) (p m n q : Pass) (E : List Entry) (who : Identity) (j : Joined) (c : ℕ) (o : Outlet) (told : Told Gone) → Passed h p [] (connect_made (number_of p) who (Ok j)) m
+    → WorkerGoes h m E n → Passed h n [] (leave_made (number_of n) c (empties_of o) told) q →
     WorkerGoes h p (join_entry p who j ∷ E ++ leave_entry n c o told ∷ []) q
 goes_between h p m n q E who j c o told came went left =
     goes_then h p n q (join_entry p who j ∷ E) (leave_entry n c o told ∷ []) (goes_then h p m n (join_entry p who j ∷ []) E (goes_one h p m _ came) went) (goes_one h n q _ left)
@@ -73,12 +76,14 @@ few_made : (i s n : ℕ) (E : List Entry) → calls E ≡ forwards i s n → len
 few_made i s n E are = sym (length-map E (λ (e : Entry). e.call)) ∙ ap (λ (l : List Call). length l) are ∙ length_forwards i s n
 
 -- those that were cut short show it
-cut_shows : (h : Hub) (n q : Pass) (k : ℕ) (E : List Entry) (e l : Entry) (cut : Cut) → k < 1000 → length E ≡ k → length (entries (seen n)) ≤ length (entries (seen q)) → LoadWasWorn h n cut → ShowsBy 1002 h (seen q) (e ∷ E ++ l ∷ []) cut
+cut_shows : (h : Hub) (n q : Pass) (k : ℕ) (E : List Entry) (e l : Entry) (cut : Cut) → k < 1000 → length E ≡ k → length (entries (seen n)) ≤ length (entries (seen q)) → LoadWasWorn h n cut
+    → ShowsBy 1002 h (seen q) (e ∷ E ++ l ∷ []) cut
 cut_shows h n q k E e l NoMemory few many later worn = tt
 cut_shows h n q k E e l Short few many later worn = inr (omega (arith, length_between E e l, few, many), omega (arith, later, worn))
 
 -- what was the sender's stays its own when the receiver leaves
-pub owns_between : (h : Hub) (i s : ℕ) (n q : Pass) (c : ℕ) (o : Outlet) (told : Told Gone) → i < WORKERS → IsCaller h n → IsOwnAs n s (sender i).vmac → IsOwnAs n c (receiver i).vmac → Passed h n [] (leave_made (number_of n) c (empties_of o) told) q → IsOwnAs q s (sender i).vmac
+pub owns_between : (h : Hub) (i s : ℕ) (n q : Pass) (c : ℕ) (o : Outlet) (told : Told Gone) → i < WORKERS → IsCaller h n → IsOwnAs n s (sender i).vmac → IsOwnAs n c (receiver i).vmac
+    → Passed h n [] (leave_made (number_of n) c (empties_of o) told) q → IsOwnAs q s (sender i).vmac
 owns_between h i s n q c o told small is mine its left =
     owned_kept h n q [] (leave_made (number_of n) c (empties_of o) told) s (sender i).vmac is left (leave_stays (number_of n) c (empties_of o) told s (connections_differ n i s c small mine its)) mine
 
@@ -100,14 +105,16 @@ after_both h i s p m n q j o told (Ok octets) small is mine came its ran left ma
       empties = empties_of o;
       frames = given o;
       made = join_entry p (receiver i) j ∷ E ++ leave_entry n j.conn o told ∷ [];
-      calls = calls_between E (join_entry p (receiver i) j) (leave_entry n j.conn o told) ∙ ap (λ (l : List Call). Connect (receiver i) ∷ l ++ Leave j.conn told.said.taken (empties_of o) ∷ []) f.calls;
+      calls = calls_between E (join_entry p (receiver i) j) (leave_entry n j.conn o told)
+          ∙ ap (λ (l : List Call). Connect (receiver i) ∷ l ++ Leave j.conn told.said.taken (empties_of o) ∷ []) f.calls;
       joined = ap numbers (joined_between E p n (receiver i) j j.conn o told) ∙ ap (λ (l : List Connection). j.conn ∷ numbers l) f.quiet;
       goes = goes_between h p m n q E (receiver i) j j.conn o told came f.goes left;
       owns = owns_between h i s n q j.conn o told small f.goes.caller (f.holds s (sender i).vmac mid) (f.holds j.conn (receiver i).vmac its) left;
       many = sym many;
       first = gave ∙ ap (λ k. take k (sent (about_of h) (entries (seen q)) j.conn)) many;
       counted = ran.1;
-      emptied = emptied_each (join_entry p (receiver i) j ∷ E ++ leave_entry n j.conn o told ∷ []) 1000 j.conn o told.said (leave_entry n j.conn o told) ran.2 ends (Contains-push (join_entry p (receiver i) j ∷ E) (leave_entry n j.conn o told)) refl refl;
+      emptied = emptied_each (join_entry p (receiver i) j ∷ E ++ leave_entry n j.conn o told ∷ []) 1000 j.conn o told.said (leave_entry n j.conn o told) ran.2 ends
+          (Contains-push (join_entry p (receiver i) j ∷ E) (leave_entry n j.conn o told)) refl refl;
     }
 after_both h i s p m n q j o told (Err cut) small is mine came its ran left many gave ends =
     let f = ran.2 in
@@ -119,7 +126,8 @@ after_both h i s p m n q j o told (Err cut) small is mine came its ran left many
       taken = told.said.taken;
       empties = empties_of o;
       made = join_entry p (receiver i) j ∷ E ++ leave_entry n j.conn o told ∷ [];
-      calls = calls_between E (join_entry p (receiver i) j) (leave_entry n j.conn o told) ∙ ap (λ (l : List Call). Connect (receiver i) ∷ l ++ Leave j.conn told.said.taken (empties_of o) ∷ []) (f.calls ∙ first_forwards i s ran.0 (omega (arith, ran.1)));
+      calls = calls_between E (join_entry p (receiver i) j) (leave_entry n j.conn o told)
+          ∙ ap (λ (l : List Call). Connect (receiver i) ∷ l ++ Leave j.conn told.said.taken (empties_of o) ∷ []) (f.calls ∙ first_forwards i s ran.0 (omega (arith, ran.1)));
       joined = ap numbers (joined_between E p n (receiver i) j j.conn o told) ∙ ap (λ (l : List Connection). j.conn ∷ numbers l) f.quiet;
       goes = goes_between h p m n q E (receiver i) j j.conn o told came f.goes left;
       owns = owns_between h i s n q j.conn o told small f.goes.caller (f.holds s (sender i).vmac mid) (f.holds j.conn (receiver i).vmac its) left;
@@ -127,7 +135,8 @@ after_both h i s p m n q j o told (Err cut) small is mine came its ran left many
       emptied =
           let least : ran.0 ≤ 1000 = omega (arith, ran.1) in (
             least,
-            emptied_each (join_entry p (receiver i) j ∷ E ++ leave_entry n j.conn o told ∷ []) ran.0 j.conn o told.said (leave_entry n j.conn o told) ran.4 ends (Contains-push (join_entry p (receiver i) j ∷ E) (leave_entry n j.conn o told)) refl refl,
+            emptied_each (join_entry p (receiver i) j ∷ E ++ leave_entry n j.conn o told ∷ []) ran.0 j.conn o told.said (leave_entry n j.conn o told) ran.4 ends
+                (Contains-push (join_entry p (receiver i) j ∷ E) (leave_entry n j.conn o told)) refl refl,
           );
     }
 

@@ -1,4 +1,5 @@
 -- Lists of calls and of entries.
+-- It serves clauses of functions of `passes`, `storm`, `worker` and `workload`.
 use Rattle.std.proofs.Common.{◌≡◌, ℕ, ◌≤◌, List, length, take, None, ap, sym}
 use Rattle.std.proofs.lemmas.List.FromFn.{length-map-range_with_len, take-map-range_with_len}
 use Rattle.bsc_history.specs.declared.call.Call.{Call}

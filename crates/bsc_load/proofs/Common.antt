@@ -1,4 +1,5 @@
 -- Lemmas that crates above cite too.
+-- It serves the clauses of `run_jobs` and `run`.
 use Rattle.bsc_history.proofs.More.{is_stopped-more, entries-more}
 use Rattle.bsc_history.specs.Marks.{entries}
 use Rattle.bsc_history.specs.Replies.{is_stopped}

@@ -1,4 +1,5 @@
 -- An outlet that is taken from until it is empty or closed, and what its leave then says.
+-- It serves clauses of most source files here.
 use Rattle.std.proofs.Common.{◌≡◌, ◌<◌, ◌+◌, inl, inr, ℕ, List, [], ◌∷◌, ◌++◌, length, Option, Some, None, refl, ap, ◌∙◌, arith}
 use Rattle.std.specs.Prelude.{◌-◌, Contains, suc, zero}
 use Rattle.std.proofs.lemmas.List.Elements.{Contains-append_left, Contains-append_right}
@@ -71,7 +72,8 @@ pub emptied_none : (o : Outlet) → IsNewOutlet o → Emptied 0 o
 emptied_none o new = inl new.1
 
 -- what the leave says and is told
-pub emptied_each : (E : List Entry) (n conn : ℕ) (o : Outlet) (g : Gone) (left : Entry) → Emptied n o → ((e : End) → FoundEnd o e → g.ending ≡ e) → Contains E left → left.call ≡ Leave conn g.taken (empties_of o) → left.reply ≡ gone_reply g → EmptiedEachTime E n conn g.taken (empties_of o)
+pub emptied_each : (E : List Entry) (n conn : ℕ) (o : Outlet) (g : Gone) (left : Entry) → Emptied n o → ((e : End) → FoundEnd o e → g.ending ≡ e) → Contains E left
+    → left.call ≡ Leave conn g.taken (empties_of o) → left.reply ≡ gone_reply g → EmptiedEachTime E n conn g.taken (empties_of o)
 emptied_each E n conn o g left so ends within leaves told =
     elim so [
       | inl often ↦ inl often

@@ -1,4 +1,5 @@
 -- The end of a workload.
+-- It serves the clauses of `run_jobs`.
 use Rattle.std.proofs.Common.{◌≡◌, ◌≤◌, ◌<◌, ◌+◌, ◌-◌, inl, inr, ℕ, Bool, true, false, cond, List, [], ◌++◌, length, map, Option, None, Result, Ok, Err, refl, ap, sym, ◌∙◌, subst, arith, append-nil}
 use Rattle.std.specs.Prelude.{min, nat_lt}
 use Rattle.std.specs.List.{range_with_len}
@@ -9,7 +10,7 @@ use Rattle.bsc_history.specs.declared.counts.Counts.{Counts}
 use Rattle.bsc_history.specs.declared.told.AlreadyStopped.{AlreadyStopped}
 use Rattle.bsc_history.specs.declared.told.Told.{Told}
 use Rattle.bsc_turn.specs.declared.pass.Pass.{Pass}
-use Rattle.bsc_turn.specs.declared.view.Ended.{Ended}
+use Rattle.bsc_turn.specs.declared.view.EndedCaller.{EndedCaller}
 use Rattle.bsc_turn.specs.Passes.{number_of, seen}
 use Rattle.bsc_hub.specs.declared.hub.Hub.{Hub}
 use Rattle.bsc_hub.specs.Calls.{stop_made}
@@ -34,7 +35,8 @@ many_workers : (xs : List Worker) (ws : List Work) (js : List Job) → indices x
 many_workers xs ws js a b = sym (length-map xs (λ (x : Worker). x.index)) ∙ ap (λ (l : List ℕ). length l) (a ∙ b) ∙ length-map js (λ (j : Job). j.index)
 
 -- the callers that were taken in, and the entry that was made
-ran_by : (h : Hub) (p m v q : Pass) (n : ℕ) (js : List Job) (ws : List Work) (sum : Sum) (made : Option Placed) → Splits h p m n js → HaveRun h js ws → (j : LoadJoins h ws m v sum) → Passed h v [] made q → (r : LoadRan h p q n j.workers made) × (r.drew ≡ min n (length js + 1))
+ran_by : (h : Hub) (p m v q : Pass) (n : ℕ) (js : List Job) (ws : List Work) (sum : Sum) (made : Option Placed) → Splits h p m n js → HaveRun h js ws → (j : LoadJoins h ws m v sum)
+    → Passed h v [] made q → (r : LoadRan h p q n j.workers made) × (r.drew ≡ min n (length js + 1))
 ran_by h p m v q n js ws sum made split run j last =
     let xs = j.workers in
     let callers = map (λ (w : Worker). w.caller) xs in
@@ -42,7 +44,7 @@ ran_by h p m v q n js ws sum made split run j last =
     let ran : LoadRan h p q n xs made = record {
       drew = min n (length js + 1);
       went =
-          subst (λ (l : List Ended). Went h p (min n (length js + 1)) l made q) (append-nil callers)
+          subst (λ (l : List EndedCaller). Went h p (min n (length js + 1)) l made q) (append-nil callers)
           (went_on h p m q (min n (length js + 1)) [] (callers ++ []) made split.went (passed_then h m v q callers [] made j.passed last));
       numbered = j.same ∙ run.same ∙ split.numbered ∙ ap (range_with_len 0) (sym many);
       within = omega (arith, many, split.within);
@@ -52,11 +54,13 @@ ran_by h p m v q n js ws sum made split run j last =
     (ran, refl)
 
 -- a stop's entry has the number of the pass that was given
-same_stop : (h : Hub) (p m v q : Pass) (told : Result (Told Counts) AlreadyStopped) (n : ℕ) (js : List Job) (ws : List Work) (sum : Sum) → Splits h p m n js → LoadJoins h ws m v sum → Stops h v q told → Passed h v [] (stop_made (number_of p) told) q
+same_stop : (h : Hub) (p m v q : Pass) (told : Result (Told Counts) AlreadyStopped) (n : ℕ) (js : List Job) (ws : List Work) (sum : Sum) → Splits h p m n js → LoadJoins h ws m v sum
+    → Stops h v q told → Passed h v [] (stop_made (number_of p) told) q
 same_stop h p m v q told n js ws sum split j s = subst (λ k. Passed h v [] (stop_made k told) q) (j.passed.number ∙ split.went.number) s.passed
 
 -- at least one worker was cut short or got no pass
-some_short : (h : Hub) (p m v q : Pass) (n without short : ℕ) (js : List Job) (ws : List Work) (sum : Sum) (told : Result (Told Counts) AlreadyStopped) → n ≤ WORKERS → without ≡ n - length js → short ≡ within_32_bits (sum.short + without) →
+some_short : (h : Hub) (p m v q : Pass) (n without short : ℕ) (js : List Job) (ws : List Work) (sum : Sum) (told : Result (Told Counts) AlreadyStopped) → n ≤ WORKERS
+    → without ≡ n - length js → short ≡ within_32_bits (sum.short + without) →
     Splits h p m n js → HaveRun h js ws → LoadJoins h ws m v sum → Stops h v q told → 0 < short → Loads h p q n (Err (ShortStop short))
 some_short h p m v q n without short js ws sum told few rest all split run j s some =
     let xs = j.workers in
@@ -75,7 +79,8 @@ some_short h p m v q n without short js ws sum told few rest all split run j s s
     }
 
 -- none was
-none_short : (h : Hub) (p m v q : Pass) (n without short : ℕ) (js : List Job) (ws : List Work) (sum : Sum) (told : Result (Told Counts) AlreadyStopped) → n ≤ WORKERS → without ≡ n - length js → short ≡ within_32_bits (sum.short + without) →
+none_short : (h : Hub) (p m v q : Pass) (n without short : ℕ) (js : List Job) (ws : List Work) (sum : Sum) (told : Result (Told Counts) AlreadyStopped) → n ≤ WORKERS
+    → without ≡ n - length js → short ≡ within_32_bits (sum.short + without) →
     Splits h p m n js → HaveRun h js ws → LoadJoins h ws m v sum → Stops h v q told → short ≤ 0 → sum.lacks_memory ≡ false → Loads h p q n (ends_as told sum.octets)
 none_short h p m v q n without short js ws sum (Ok t) few rest all split run j s none fine =
     let xs = j.workers in
@@ -104,17 +109,22 @@ none_short h p m v q n without short js ws sum (Err already) few rest all split 
       place = s.place;
     }
 
-answered : (h : Hub) (p m v q : Pass) (n without short : ℕ) (js : List Job) (ws : List Work) (sum : Sum) (told : Result (Told Counts) AlreadyStopped) (b : Bool) → nat_lt 0 short ≡ b → n ≤ WORKERS → without ≡ n - length js → short ≡ within_32_bits (sum.short + without) →
+answered : (h : Hub) (p m v q : Pass) (n without short : ℕ) (js : List Job) (ws : List Work) (sum : Sum) (told : Result (Told Counts) AlreadyStopped) (b : Bool) → nat_lt 0 short ≡ b
+    → n ≤ WORKERS → without ≡ n - length js → short ≡ within_32_bits (sum.short + without) →
     Splits h p m n js → HaveRun h js ws → LoadJoins h ws m v sum → Stops h v q told → sum.lacks_memory ≡ false → Loads h p q n (cond b (Err (ShortStop short)) (ends_as told sum.octets))
 answered h p m v q n without short js ws sum told true is few rest all split run j s fine = some_short h p m v q n without short js ws sum told few rest all split run j s (ltb-true 0 short is)
 answered h p m v q n without short js ws sum told false is few rest all split run j s fine = none_short h p m v q n without short js ws sum told few rest all split run j s (ltb-false 0 short is) fine
 
 -- from the jobs on
-pub loads_from : (h : Hub) (m q : Pass) (n without : ℕ) (js : List Job) (ws : List Work) (result : Result LoadEnd LoadStop) → n ≤ WORKERS → without ≡ n - length js → HaveRun h js ws → LoadFinishes h ws without m q result → LoadsFrom h m n js q result
+pub loads_from : (h : Hub) (m q : Pass) (n without : ℕ) (js : List Job) (ws : List Work) (result : Result LoadEnd LoadStop) → n ≤ WORKERS → without ≡ n - length js → HaveRun h js ws
+    → LoadFinishes h ws without m q result → LoadsFrom h m n js q result
 loads_from h m q n without js ws result few rest run f p split =
     elim f.ends [
-      | inl lacks ↦ subst (λ (r : Result LoadEnd LoadStop). Loads h p q n r) (sym lacks.2)
-          (f.joins.workers, subst (λ (x : Pass). LoadRan h p x n f.joins.workers None) (sym lacks.1) (ran_by h p m f.pass f.pass n js ws f.sum None split run f.joins (passed_none h f.pass f.joins.passed.caller)).0)
+      | inl lacks ↦ subst (λ (r : Result LoadEnd LoadStop). Loads h p q n r) (sym lacks.2) (
+        f.joins.workers,
+        subst (λ (x : Pass). LoadRan h p x n f.joins.workers None) (sym lacks.1)
+            (ran_by h p m f.pass f.pass n js ws f.sum None split run f.joins (passed_none h f.pass f.joins.passed.caller)).0,
+      )
       | inr fine ↦ (
           let short = within_32_bits (f.sum.short + without) in
           subst (λ (r : Result LoadEnd LoadStop). Loads h p q n r) (sym fine.1.2)

@@ -1,4 +1,5 @@
 -- The forwards of a worker.
+-- It serves the clauses of `forward_all` and `forward`.
 use Rattle.std.specs.Prelude.{⊤}
 use Rattle.std.proofs.Common.{◌≡◌, ℕ, ◌+◌, ◌≤◌, ◌↔◌, IsErr, length, None, List, [], ◌∷◌, ◌++◌, Result, Ok, Err, refl, ap, sym, ◌∙◌, subst, arith, append-nil}
 use Rattle.std.specs.Option.{option_to_list}
@@ -30,7 +31,8 @@ use Rattle.bsc_load.proofs.Calls.{forward_joins_none}
 use Rattle.bsc_load.proofs.Going.{goes_none, goes_one, goes_same, goes_then, holds_by, holds_same, holds_then}
 
 -- a forward, whatever it was told
-pub forwarded : (h : Hub) (i s k : ℕ) (p q : Pass) (r : Result (Told OneReply) Worn) → IsCaller h p → Passed h p [] (one_made (number_of p) s (frame i k) r) q → (IsErr r ↔ ((about_of h).limits.calls ≤ length (found_history (one_made (number_of p) s (frame i k) r) q))) → LoadForwards h i s k p q (goes_on r)
+pub forwarded : (h : Hub) (i s k : ℕ) (p q : Pass) (r : Result (Told OneReply) Worn) → IsCaller h p → Passed h p [] (one_made (number_of p) s (frame i k) r) q
+    → (IsErr r ↔ ((about_of h).limits.calls ≤ length (found_history (one_made (number_of p) s (frame i k) r) q))) → LoadForwards h i s k p q (goes_on r)
 forwarded h i s k p q (Ok t) is x worn = (
   (one_stamped (number_of p) s (frame i k) t.said).entry,
   refl,
@@ -43,7 +45,8 @@ forwarded h i s k p q (Err e) is x worn = (
   worn.0 refl,
 )
 
-pub forwarded_as : (h : Hub) (i s k : ℕ) (p q : Pass) (r : Result (Told OneReply) Worn) (m : List ℕ) (said : Result ⊤ Cut) → m ≡ frame i k → said ≡ goes_on r → IsCaller h p → Passed h p [] (one_made (number_of p) s m r) q → (IsErr r ↔ ((about_of h).limits.calls ≤ length (found_history (one_made (number_of p) s m r) q))) → LoadForwards h i s k p q said
+pub forwarded_as : (h : Hub) (i s k : ℕ) (p q : Pass) (r : Result (Told OneReply) Worn) (m : List ℕ) (said : Result ⊤ Cut) → m ≡ frame i k → said ≡ goes_on r → IsCaller h p
+    → Passed h p [] (one_made (number_of p) s m r) q → (IsErr r ↔ ((about_of h).limits.calls ≤ length (found_history (one_made (number_of p) s m r) q))) → LoadForwards h i s k p q said
 forwarded_as h i s k p q r m said same told is x worn =
     subst (λ (a : Result ⊤ Cut). LoadForwards h i s k p q a) (sym told) (
     forwarded h i s k p q r is

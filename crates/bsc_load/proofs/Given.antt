@@ -1,4 +1,5 @@
 -- Lists that go with one another, element by element.
+-- It serves the clauses of `run_all`.
 use Rattle.std.proofs.Common.{◌≡◌, ◌<◌, ℕ, suc, List, [], ◌∷◌, length, refl, ap, sym, ◌∙◌, subst, arith}
 use Rattle.std.specs.List.{slice_index_or}
 use Rattle.bsc_hub.specs.declared.hub.Hub.{Hub}

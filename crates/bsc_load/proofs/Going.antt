@@ -1,4 +1,5 @@
 -- A pass that goes on from call to call.
+-- It serves clauses of functions of `passes`, `storm`, `worker` and `workload`.
 use Rattle.std.proofs.Common.{◌≡◌, ℕ, List, [], ◌∷◌, ◌++◌, Option, Some, None, refl, ap, sym, ◌∙◌, subst, append_assoc, append-nil}
 use Rattle.bsc_history.specs.declared.entry.Entry.{Entry}
 use Rattle.bsc_history.specs.declared.mark.Mark.{Mark}

@@ -1,4 +1,5 @@
 -- The passes of the workers are joined, one after another.
+-- It serves the clauses of `join_all` and `run_jobs`.
 use Rattle.std.proofs.Common.{◌≡◌, ◌≤◌, ◌+◌, inl, inr, ℕ, Bool, true, false, cond, List, [], ◌∷◌, ◌++◌, length, map, take, None, Result, Ok, Err, refl, ap, sym, ◌∙◌, subst, arith, add-zero}
 use Rattle.std.specs.List.{AllByRecursion, sum_by}
 use Rattle.std.proofs.lemmas.List.{map-append}
@@ -9,7 +10,7 @@ use Rattle.bsc_history.specs.declared.mark.Stamped.{Stamped}
 use Rattle.bsc_history.specs.Marks.{entries}
 use Rattle.bsc_history.specs.Outboxes.{sent}
 use Rattle.bsc_turn.specs.declared.pass.Pass.{Pass}
-use Rattle.bsc_turn.specs.declared.view.Ended.{Ended}
+use Rattle.bsc_turn.specs.declared.view.EndedCaller.{EndedCaller}
 use Rattle.bsc_turn.specs.Effects.{ended_of}
 use Rattle.bsc_turn.specs.Histories.{StartsWith}
 use Rattle.bsc_turn.specs.Passes.{ended_callers, newest_number, own_list, seen, view_of}
@@ -105,13 +106,15 @@ known_later h w S T x begins k = record {
 
 -- by its answer
 abbrev KnownBy : Hub → Work → List Stamped → Worker → Result ℕ Cut → Type 0
-KnownBy h w S x r = IsPart x.index x.caller.own × (x.is_cut ≡ true → ShowsShort (about_of h) x.caller.own (length (entries S))) × Took (about_of h) S x × Says (about_of h) S x r × (x.index ≡ w.index) × (x.caller ≡ ended_of (view_of w.pass))
+KnownBy h w S x r = IsPart x.index x.caller.own × (x.is_cut ≡ true → ShowsShort (about_of h) x.caller.own (length (entries S))) × Took (about_of h) S x × Says (about_of h) S x r
+    × (x.index ≡ w.index) × (x.caller ≡ ended_of (view_of w.pass))
 
 known_by : (h : Hub) (w : Work) (r : Result ℕ Cut) → LoadWorkerDid h w.index (own_list w.pass) (seen w.pass) r → (x : Worker) × KnownBy h w (seen w.pass) x r
 known_by h w (Ok octets) d =
     let x : Worker = record { index = w.index; caller = ended_of (view_of w.pass); is_cut = false; receiver = d.conn; taken = d.taken } in
     let part = part_of_whole w.index (own_list w.pass) d.conn d.taken d.whole in
-    let cut : false ≡ true → ShowsShort (about_of h) (own_list w.pass) (length (entries (seen w.pass))) = λ is. no_cut (ShowsShort (about_of h) (own_list w.pass) (length (entries (seen w.pass)))) is in
+    let cut : false ≡ true → ShowsShort (about_of h) (own_list w.pass) (length (entries (seen w.pass))) =
+    λ is. no_cut (ShowsShort (about_of h) (own_list w.pass) (length (entries (seen w.pass)))) is in
     let octets_so = d.counted ∙ ap within_64_bits (took_is (about_of h) (seen w.pass) d.conn d.taken d.frames d.many d.first) in
     (x, (part, cut, (d.frames, d.many, d.first), ((refl, d.whole), octets_so), refl, refl))
 known_by h w (Err Short) d =
@@ -119,13 +122,14 @@ known_by h w (Err Short) d =
     (x, (d.0, (λ is. d.1), ([], refl, refl), refl, refl, refl))
 known_by h w (Err NoMemory) d =
     let x : Worker = record { index = w.index; caller = ended_of (view_of w.pass); is_cut = false; receiver = 0; taken = 0 } in
-    let cut : false ≡ true → ShowsShort (about_of h) (own_list w.pass) (length (entries (seen w.pass))) = λ is. no_cut (ShowsShort (about_of h) (own_list w.pass) (length (entries (seen w.pass)))) is in
+    let cut : false ≡ true → ShowsShort (about_of h) (own_list w.pass) (length (entries (seen w.pass))) =
+    λ is. no_cut (ShowsShort (about_of h) (own_list w.pass) (length (entries (seen w.pass)))) is in
     (x, (d.0, cut, ([], refl, refl), refl, refl, refl))
 
 known : (h : Hub) (w : Work) → HasRun h w → (x : Worker) × Known h w (seen w.pass) x
 known h w run =
     let k = known_by h w w.octets run.did in
-    let none : k.0.caller.loads ≡ 0 = ap (λ (e : Ended). e.loads) k.1.5 ∙ run.draws_none in
+    let none : k.0.caller.loads ≡ 0 = ap (λ (e : EndedCaller). e.loads) k.1.5 ∙ run.draws_none in
     (k.0, record { part = record { part = k.1.0; draws_none = none }; cut = k.1.1; took = k.1.2; says = k.1.3; index = k.1.4; caller = k.1.5 })
 
 -- how many were cut short
@@ -141,7 +145,8 @@ short_one s t n b is more so =
     let k : t ≡ within_32_bits (n + 1) = omega (arith, more, so) in
     k ∙ ap (λ b. within_32_bits (n + cond b 1 0)) (sym is)
 
-short_more : (a : About) (S : List Stamped) (x : Worker) (r : Result ℕ Cut) (s t : Sum) (n : ℕ) → Says a S x r → CountsIn s r t → s.short ≡ within_32_bits n → t.short ≡ within_32_bits (n + cond x.is_cut 1 0)
+short_more : (a : About) (S : List Stamped) (x : Worker) (r : Result ℕ Cut) (s t : Sum) (n : ℕ) → Says a S x r → CountsIn s r t → s.short ≡ within_32_bits n
+    → t.short ≡ within_32_bits (n + cond x.is_cut 1 0)
 short_more a S x (Ok octets) s t n says counts so = short_same s.short t.short n x.is_cut says.0.0 counts.1 so
 short_more a S x (Err Short) s t n says counts so = short_one s.short t.short n x.is_cut says counts.1 so
 short_more a S x (Err NoMemory) s t n says counts so = short_same s.short t.short n x.is_cut says counts.1 so
@@ -158,7 +163,8 @@ whole_more a S T xs x (Ok octets) s t begins took says counts whole lacks none =
     let zero : cut_short xs ≡ 0 = omega (arith, cut_short_more xs x, none) in
     let w = whole (sym counts.2 ∙ lacks) zero in (
       all_push WorksWhole xs x w.0 says.0,
-      add_within s.octets t.octets octets (sum_by (took_octets a T) xs) (took_octets a T x) counts.0 (w.1 ∙ ap within_64_bits (all_took_same a S T xs begins took)) says.1 ∙ ap within_64_bits (sym (sum_by_push (took_octets a T) xs x)),
+      add_within s.octets t.octets octets (sum_by (took_octets a T) xs) (took_octets a T x) counts.0 (w.1 ∙ ap within_64_bits (all_took_same a S T xs begins took)) says.1
+          ∙ ap within_64_bits (sym (sum_by_push (took_octets a T) xs x)),
     )
 whole_more a S T xs x (Err Short) s t begins took says counts whole lacks none =
     let one : cut_short (xs ++ x ∷ []) ≡ cut_short xs + 1 = cut_short_more xs x ∙ ap (λ b. cut_short xs + cond b 1 0) says in
@@ -181,7 +187,8 @@ joins_none h p s is octets short lacks = record {
 
 -- one more
 pub joins_more : (h : Hub) (ws : List Work) (w : Work) (p m q : Pass) (s t : Sum) → LoadJoins h ws p m s → HasRun h w →
-    Passed h m (ended_of (view_of w.pass) ∷ ended_callers w.pass) None q → StartsWith (seen q) (seen w.pass) → newest_number q ≡ newest_number m → CountsIn s w.octets t → LoadJoins h (ws ++ w ∷ []) p q t
+    Passed h m (ended_of (view_of w.pass) ∷ ended_callers w.pass) None q → StartsWith (seen q) (seen w.pass) → newest_number q ≡ newest_number m → CountsIn s w.octets t
+    → LoadJoins h (ws ++ w ∷ []) p q t
 joins_more h ws w p m q s t j run joined sees loaded counts =
     let one = known h w run in
     let x = one.0 in
@@ -189,10 +196,11 @@ joins_more h ws w p m q s t j run joined sees loaded counts =
     let xs = j.workers in
     let callers = λ (l : List Worker). map (λ (v : Worker). v.caller) l in
     let took_in : callers xs ++ ended_of (view_of w.pass) ∷ ended_callers w.pass ≡ callers (xs ++ x ∷ []) =
-    ap (λ (l : List Ended). callers xs ++ ended_of (view_of w.pass) ∷ l) run.ended ∙ ap (λ (c : Ended). callers xs ++ c ∷ []) (sym k.caller) ∙ sym (map-append (λ (v : Worker). v.caller) xs (x ∷ [])) in
+    ap (λ (l : List EndedCaller). callers xs ++ ended_of (view_of w.pass) ∷ l) run.ended ∙ ap (λ (c : EndedCaller). callers xs ++ c ∷ []) (sym k.caller)
+    ∙ sym (map-append (λ (v : Worker). v.caller) xs (x ∷ [])) in
     record {
       workers = xs ++ x ∷ [];
-      passed = subst (λ (l : List Ended). Passed h p l None q) took_in (passed_then h p m q (callers xs) (ended_of (view_of w.pass) ∷ ended_callers w.pass) None j.passed joined);
+      passed = subst (λ (l : List EndedCaller). Passed h p l None q) took_in (passed_then h p m q (callers xs) (ended_of (view_of w.pass) ∷ ended_callers w.pass) None j.passed joined);
       loaded = loaded ∙ j.loaded;
       same =
           map-append (λ (v : Worker). v.index) xs (x ∷ [])

@@ -15,3 +15,4 @@ pub mod Ending
 pub mod Appended
 mod WorkedFrames
 pub mod Common
+pub mod StormFacts

@@ -1,4 +1,5 @@
 -- Lists that are made from an index.
+-- It serves the clauses of `push_npdu`.
 use Rattle.std.proofs.Common.{◌≡◌, ℕ, ◌+◌, ◌%◌, List, [], ◌∷◌, ◌++◌, map, arith, ap, ◌∙◌, sym, append_assoc}
 use Rattle.std.specs.List.{range_with_len}
 use Rattle.std.proofs.lemmas.List.FromFn.{map-range_with_len_more}

@@ -1,4 +1,5 @@
 -- What a worker does from its sender's connect to its sender's leave.
+-- It serves clauses of functions of `passes`, `storm`, `worker` and `workload`.
 use Rattle.std.proofs.Common.{◌≡◌, ◌≤◌, inl, inr, ℕ, List, [], ◌∷◌, ◌++◌, length, take, Result, Ok, Err, refl, ap, ◌∙◌, arith, append_assoc}
 use Rattle.std.specs.List.{list_any}
 use Rattle.std.proofs.lemmas.Bool.{or_left, or_right}
@@ -42,7 +43,8 @@ more_shows h S T E e l Short later so =
     ]
 
 -- the calls of a worker whose sender joined and left, which took nothing
-pub outer_calls : (E : List Entry) (C : List Call) (e l : Entry) (x : Call) (s taken empties : ℕ) → e.call ≡ x → l.call ≡ Leave s taken empties → taken ≡ 0 → empties ≡ 0 → calls E ≡ C → calls (e ∷ E ++ l ∷ []) ≡ x ∷ C ++ Leave s 0 0 ∷ []
+pub outer_calls : (E : List Entry) (C : List Call) (e l : Entry) (x : Call) (s taken empties : ℕ) → e.call ≡ x → l.call ≡ Leave s taken empties → taken ≡ 0 → empties ≡ 0 → calls E ≡ C
+    → calls (e ∷ E ++ l ∷ []) ≡ x ∷ C ++ Leave s 0 0 ∷ []
 outer_calls E C e l x s taken empties joins leaves none never are =
     let L = leaves ∙ ap (λ (n : ℕ). Leave s n empties) none ∙ ap (λ (n : ℕ). Leave s 0 n) never in
     calls_between E e l
@@ -116,7 +118,8 @@ after_run h i p m n q j o told (Err cut) came b new left many =
           taken = b.taken;
           empties = b.empties;
           calls =
-              outer_calls E (inner_calls i j.conn b.who b.more b.taken b.empties) e l (Connect (sender i)) j.conn told.said.taken (empties_of o) refl refl (many ∙ ap (λ (x : List (List ℕ)). length x) new.0) new.1 b.calls
+              outer_calls E (inner_calls i j.conn b.who b.more b.taken b.empties) e l (Connect (sender i)) j.conn told.said.taken (empties_of o) refl refl
+              (many ∙ ap (λ (x : List (List ℕ)). length x) new.0) new.1 b.calls
               ∙ cut_calls i j.conn b.who b.more b.taken b.empties;
           joined = ap numbers (joined_between E p n (sender i) j j.conn o told) ∙ ap (λ (x : List ℕ). j.conn ∷ x) b.joined;
           emptied = emptied_part E e l j.conn b.who b.more b.taken b.empties b.emptied;

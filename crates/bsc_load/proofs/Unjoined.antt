@@ -1,4 +1,5 @@
 -- A connect that didn't join, and histories that grow.
+-- It serves clauses of functions of `passes`, `storm`, `worker` and `workload`.
 use Rattle.std.proofs.Common.{◌≡◌, ◌≢◌, ◌≤◌, ◌+◌, inl, inr, ℕ, true, List, [], ◌∷◌, ◌++◌, length, take, drop, None, Result, Err, refl, ap, sym, ◌∙◌, arith, append_assoc, take-append-drop}
 use Rattle.std.specs.Prelude.{◌⊎◌, nat_le}
 use Rattle.std.proofs.lemmas.Bool.{leb-true}
@@ -40,7 +41,8 @@ first_later a S T c frames begins are =
     let rest = drop (length frames) all in
     let later = sent_grows a (entries S) (entries begins.0) c in
     let split : all ≡ frames ++ rest = sym (take-append-drop (length frames) all) ∙ ap (λ (l : List (List ℕ)). l ++ rest) (sym are) in
-    let whole : sent a (entries T) c ≡ frames ++ (rest ++ later.0) = ap (λ H. sent a H c) (parts S T begins) ∙ later.1 ∙ ap (λ (l : List (List ℕ)). l ++ later.0) split ∙ append_assoc frames rest later.0 in
+    let whole : sent a (entries T) c ≡ frames ++ (rest ++ later.0) = ap (λ H. sent a H c) (parts S T begins) ∙ later.1 ∙ ap (λ (l : List (List ℕ)). l ++ later.0) split
+    ∙ append_assoc frames rest later.0 in
     sym (ap (take (length frames)) whole ∙ take-append_seam frames (rest ++ later.0))
 
 -- the sign of fewer entries is that of more
@@ -69,7 +71,8 @@ unjoined h p q who NoMemoryRefusal is x due = record {
 }
 unjoined h p q who (WornRefusal worn) is x due =
     let told : None ≡ connect_due (about_of h) (entries (seen q)) who = due (λ same. cc) in
-    let limit : nat_le (about_of h).limits.calls (length (entries (seen q))) ≡ true = worn_where (nat_le (about_of h).limits.calls (length (entries (seen q)))) (connect_reply (about_of h) (entries (seen q)) who) told in
+    let limit : nat_le (about_of h).limits.calls (length (entries (seen q))) ≡ true =
+    worn_where (nat_le (about_of h).limits.calls (length (entries (seen q)))) (connect_reply (about_of h) (entries (seen q)) who) told in
     record {
       made = [];
       calls = inl refl;

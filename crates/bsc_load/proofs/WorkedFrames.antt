@@ -1,4 +1,5 @@
 -- Worked rows of a workload: who joins, what is forwarded, and how many octets one worker takes.
+-- No clause needs it: worked examples.
 use Rattle.std.proofs.Common.{◌≡◌, ◌+◌, ◌%◌, [], ◌∷◌, length, refl}
 use Rattle.std.specs.List.{range_with_len, sum_by}
 use Rattle.bsc_octets.specs.Forwarding.{out}

@@ -5,3 +5,4 @@ pub mod Load
 pub mod Loaded
 pub mod Inner
 pub mod Laws
+pub mod Storm

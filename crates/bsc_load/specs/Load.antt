@@ -10,7 +10,7 @@ use Rattle.bsc_history.specs.Entries.{stops}
 use Rattle.bsc_history.specs.Marks.{entries}
 use Rattle.bsc_history.specs.Replies.{is_stopped}
 use Rattle.bsc_turn.specs.declared.pass.Pass.{Pass}
-use Rattle.bsc_turn.specs.declared.view.Ended.{Ended}
+use Rattle.bsc_turn.specs.declared.view.EndedCaller.{EndedCaller}
 use Rattle.bsc_turn.specs.Passes.{newest_number, number_of, seen}
 use Rattle.bsc_hub.specs.declared.hub.Hub.{Hub}
 use Rattle.bsc_hub.specs.Calls.{stop_made}
@@ -24,7 +24,7 @@ use Rattle.bsc_load.specs.Workers.{IsPart, IsWholeWorker, ShowsShort, octets_tak
 -- receiver's connection and how many frames that took.
 pub record Worker : Type 0 where
   pub index : ℕ
-  pub caller : Ended
+  pub caller : EndedCaller
   pub is_cut : Bool
   pub receiver : ℕ
   pub taken : ℕ

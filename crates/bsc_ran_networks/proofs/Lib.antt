@@ -1,2 +1,3 @@
 mod Networks
 mod Wires
+mod HubRuns

@@ -1,4 +1,5 @@
 -- Networks of hubs that the command `hub` made and of nodes that the command `node` ran.
+-- It serves the clauses of `hubs_and_nodes_that_ran_deliver` and `what_ran_delivers_by_wires`.
 use Rattle.std.proofs.Common.{◌≡◌, ℕ, List, [], ◌∷◌, Option, is_some, Result, Ok, Err, IfErr, IfOk, refl}
 use Rattle.bsc_edge.specs.declared.notice.Notice.{Notice}
 use Rattle.bsc_edge.specs.declared.said.Said.{Said}
@@ -17,8 +18,8 @@ use Rattle.bsc_node_command.specs.Comes.{made_by}
 use Rattle.bsc_node_command.specs.Ran.{RanNodesUseLinks, StoppedNodesUseLinks, outside_of}
 use Rattle.bsc_network_of_runs.specs.Nodes.{NodeRun, log_of}
 use Rattle.bsc_network_of_runs.specs.Running.{RunsAreOfNodes, StoppedRunsAreOfNodes}
-use Rattle.bsc_hub_runs.specs.Networks.{HubsThatRanDeliver}
-use Rattle.bsc_hub_runs.specs.Runs.{InPairs}
+use Rattle.bsc_ran_networks.specs.HubRuns.Networks.{HubsThatRanDeliver}
+use Rattle.bsc_ran_networks.specs.HubRuns.Runs.{InPairs}
 use Rattle.bsc_ran_networks.specs.Networks.{HubsAndNodesThatRanDeliver, IsItsNode, RanByCommand}
 
 module _ {K W : Type 0} (talk : K → Option (List Said)) (drawn : NodeEvent → W → W → Type 0) where

@@ -1,4 +1,5 @@
 -- Networks of hubs and nodes that the commands ran, by what their links told.
+-- It serves the clauses of `what_ran_delivers_by_wires`.
 use Rattle.std.proofs.Common.{◌≡◌, ℕ, append-nil, zero, suc, Bool, true, false, List, [], ◌∷◌, Option, Some, None, refl, ap, sym, subst, ◌∙◌}
 use Rattle.std.specs.Prelude.{map, option_map, slice_get, unwrap_or}
 use Rattle.std.proofs.lemmas.Bool.{both_ways}
@@ -17,8 +18,8 @@ use Rattle.bsc_network_of_runs.specs.Networks.{HasTraffic, LinkEnd, SessionName,
 use Rattle.bsc_network_of_runs.specs.Nodes.{NodeRun, log_of}
 use Rattle.bsc_network_of_runs.specs.Running.{RunsAreOfNodes, StoppedRunsAreOfNodes}
 use Rattle.bsc_network_of_runs.specs.Wires.{AreTold, WiresAreLinks}
-use Rattle.bsc_hub_runs.specs.Networks.{HubsThatRanDeliver}
-use Rattle.bsc_hub_runs.specs.Runs.{InPairs}
+use Rattle.bsc_ran_networks.specs.HubRuns.Networks.{HubsThatRanDeliver}
+use Rattle.bsc_ran_networks.specs.HubRuns.Runs.{InPairs}
 use Rattle.bsc_ran_networks.specs.Networks.{IsItsNode, RanByCommand}
 use Rattle.bsc_ran_networks.specs.Wires.{IsItsToldRun, IsToldOver, ToldRun, WhatRanDeliversByWires, network_of, talk_of, told_at}
 use Rattle.bsc_ran_networks.proofs.Networks.{node_of}
@@ -76,7 +77,8 @@ module _ {K W : Type 0} (talk : K → Option (List Said)) (drawn : NodeEvent →
         record { its = n.1; told = λ l h. picked (IsToldOver talk M n.1.used.links l) M l (f l) [] (begun_at (slice_get M l.began) l) refl (λ g. (some_told x n.0 n.1 l g).so) h },
       )
 
-  runs_of : RunsAreOfNodes talk drawn → StoppedRunsAreOfNodes talk → RanNodesUseLinks talk drawn → StoppedNodesUseLinks talk drawn → (ran : List (RanByCommand talk drawn)) → (runs : List ToldRun) × InPairs (IsItsToldRun talk drawn) ran runs
+  runs_of : RunsAreOfNodes talk drawn → StoppedRunsAreOfNodes talk → RanNodesUseLinks talk drawn → StoppedNodesUseLinks talk drawn → (ran : List (RanByCommand talk drawn))
+      → (runs : List ToldRun) × InPairs (IsItsToldRun talk drawn) ran runs
   runs_of are are_stopped links stopped [] = ([], tt)
   runs_of are are_stopped links stopped (x ∷ ran) =
       let one = run_of are are_stopped links stopped x in
@@ -91,7 +93,8 @@ module _ {K W : Type 0} (talk : K → Option (List Said)) (drawn : NodeEvent →
     ran : RanByCommand talk drawn
     its : IsItsToldRun talk drawn ran run
 
-  found : (ran : List (RanByCommand talk drawn)) (runs : List ToldRun) (k : ℕ) (n : NodeRun) → InPairs (IsItsToldRun talk drawn) ran runs → slice_get (map (λ (r : ToldRun). r.node) runs) k ≡ Some n → Found runs k n
+  found : (ran : List (RanByCommand talk drawn)) (runs : List ToldRun) (k : ℕ) (n : NodeRun) → InPairs (IsItsToldRun talk drawn) ran runs
+      → slice_get (map (λ (r : ToldRun). r.node) runs) k ≡ Some n → Found runs k n
   found [] [] k n p got = cc
   found [] (r ∷ runs) k n p got = absurd p
   found (x ∷ ran) [] k n p got = absurd p

@@ -12,8 +12,8 @@ use Rattle.bsc_network_of_runs.specs.Deliveries.{DeliversWhatWasSent}
 use Rattle.bsc_network_of_runs.specs.Hubs.{HubRun}
 use Rattle.bsc_network_of_runs.specs.Networks.{AreLinks, OtherEnd}
 use Rattle.bsc_network_of_runs.specs.Nodes.{NodeRun, log_of}
-use Rattle.bsc_hub_runs.specs.Networks.{IsItsRun, MadeByCommand}
-use Rattle.bsc_hub_runs.specs.Runs.{InPairs}
+use Rattle.bsc_ran_networks.specs.HubRuns.Networks.{IsItsRun, MadeByCommand}
+use Rattle.bsc_ran_networks.specs.HubRuns.Runs.{InPairs}
 
 module _ {K W : Type 0} (talk : K → Option (List Said)) (drawn : NodeEvent → W → W → Type 0) where
   -- A node that the command ran, with any status: to its end, with 0 or 8, or until a fault stopped it, with 4, 6 or 7.

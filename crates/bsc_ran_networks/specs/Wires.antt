@@ -12,8 +12,8 @@ use Rattle.bsc_network_of_runs.specs.Hubs.{HubRun, SessionOf}
 use Rattle.bsc_network_of_runs.specs.Networks.{Network, OtherEnd, of_node, of_session}
 use Rattle.bsc_network_of_runs.specs.Nodes.{NodeRun}
 use Rattle.bsc_network_of_runs.specs.Wires.{AreWires, Talks}
-use Rattle.bsc_hub_runs.specs.Networks.{IsItsRun, MadeByCommand}
-use Rattle.bsc_hub_runs.specs.Runs.{InPairs}
+use Rattle.bsc_ran_networks.specs.HubRuns.Networks.{IsItsRun, MadeByCommand}
+use Rattle.bsc_ran_networks.specs.HubRuns.Runs.{InPairs}
 use Rattle.bsc_ran_networks.specs.Networks.{IsItsNode, RanByCommand}
 
 -- The run of a node, and what was told on each of its links while the node had it.

@@ -20,7 +20,7 @@ pub fn hubs_and_nodes_that_ran_deliver<
 >()
     ensures { HubsAndNodesThatRanDeliver L.talk L.faults L.notices C.readings N.held N.faults J.begins K.talk (Draws W.gives W.faults) }
 {
-    bsc_hub_runs::hubs_that_ran_deliver::<L, C, N, J>();
+    crate::hub_runs::hubs_that_ran_deliver::<L, C, N, J>();
     bsc_network_of_runs::runs_are_of_nodes::<K, W>();
     bsc_network_of_runs::stopped_runs_are_of_nodes::<K>();
     bsc_node_command::ran_nodes_use_links::<K, W>();
@@ -32,7 +32,7 @@ pub fn hubs_and_nodes_that_ran_deliver<
 pub fn what_ran_delivers_by_wires<L: Link, C: Clock, N: Sink, J: Journals<N>, K: Link, W: Words>()
     ensures { WhatRanDeliversByWires L.talk L.faults L.notices C.readings N.held N.faults J.begins K.talk (Draws W.gives W.faults) }
 {
-    bsc_hub_runs::hubs_that_ran_deliver::<L, C, N, J>();
+    crate::hub_runs::hubs_that_ran_deliver::<L, C, N, J>();
     bsc_network_of_runs::runs_are_of_nodes::<K, W>();
     bsc_network_of_runs::stopped_runs_are_of_nodes::<K>();
     bsc_node_command::ran_nodes_use_links::<K, W>();

@@ -3,7 +3,7 @@ ghost use Rattle.std.specs.Prelude.{◌≡◌, None, IfSome};
 ghost use Rattle.bsc_script.specs.Lines.{line_of as script_line};
 ghost use Rattle.bsc_network_script.specs.Lines.{line_of as network_line};
 ghost use Rattle.bsc_replay.specs.Asking.{line_of as question_line};
-ghost use Rattle.bsc_journal.specs.declared.said.Said.{Said as SaidOf};
+ghost use Rattle.bsc_journal.specs.declared.journal_record.JournalRecord.{JournalRecord as SaidOf};
 ghost use Rattle.bsc_journal.specs.Saying.{Says};
 
 use crate::cutting::{before, behind};

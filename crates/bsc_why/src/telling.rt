@@ -1,11 +1,11 @@
 //! What is told of a run that ended with a fault.
 use crate::format::Format;
+use crate::recorders::{DoorNote, RecentInput};
 use crate::refused_line::{Seen, why_line};
+use bsc_cli::{Asked, ReadWords};
+use bsc_cli_diagnostics::why_words;
 use bsc_octets::NoMemory;
-use bsc_recorders::{DoorNote, Kept};
 use bsc_settings_diagnostics::why_settings;
-use bsc_words::{Asked, ReadWords};
-use bsc_words_diagnostics::why_words;
 use std::alloc::Global;
 use std::io::{self, Eprint};
 use std::net::{Ipv4Addr, Net, SocketAddr};
@@ -21,7 +21,7 @@ pub struct Heard<'a> {
     /// Whether each of them is UTF-8.
     pub has_texts: bool,
     /// What is kept of its standard input.
-    pub input: &'a Kept,
+    pub input: &'a RecentInput,
     /// Why a read of that failed, if one did.
     pub input_error: Option<io::Error>,
     /// The line that was refused, if one was.
@@ -112,6 +112,7 @@ fn of_line(alloc: Global, heard: &Heard<'_>) -> Result<Option<String>, NoMemory>
         Ok(Asked::Check) => of_input(alloc, Format::Question, heard),
         Ok(Asked::Audit) => of_input(alloc, Format::Journal, heard),
         Ok(Asked::Node { script, .. }) => of_script(alloc, script, heard),
+        Ok(Asked::TestNode { script, .. }) => of_script(alloc, script, heard),
         _ => Ok(None),
     }
 }
@@ -128,15 +129,22 @@ fn of_path(
     }
 }
 
+/// The file of a node at which reading stopped: its settings, or its script.
+fn unread_of<'a>(heard: &Heard<'_>, path: &'a str, script: &'a str) -> &'a str {
+    if heard.files == 0 { path } else { script }
+}
+
 /// Of a read that failed: of what, and why.
 fn of_read(alloc: Global, heard: &Heard<'_>) -> Result<Option<String>, NoMemory> {
     match heard.read.asked {
         Ok(Asked::Hub { path, .. }) => of_path(alloc, path, heard.file_error),
-        Ok(Asked::Node { path, script }) => of_path(
-            alloc,
-            if heard.files == 0 { path } else { script },
-            heard.file_error,
-        ),
+        Ok(Asked::TestHub { path }) => of_path(alloc, path, heard.file_error),
+        Ok(Asked::Node { path, script }) => {
+            of_path(alloc, unread_of(heard, path, script), heard.file_error)
+        }
+        Ok(Asked::TestNode { path, script }) => {
+            of_path(alloc, unread_of(heard, path, script), heard.file_error)
+        }
         Ok(_) => of_path(alloc, "standard input", heard.input_error),
         Err(_) => Ok(None),
     }
@@ -177,7 +185,9 @@ fn of_table(
 fn of_settings(alloc: Global, heard: &Heard<'_>) -> Result<Option<String>, NoMemory> {
     match heard.read.asked {
         Ok(Asked::Hub { path, .. }) => of_table(alloc, path, "hub", heard),
+        Ok(Asked::TestHub { path }) => of_table(alloc, path, "hub", heard),
         Ok(Asked::Node { path, .. }) => of_table(alloc, path, "node", heard),
+        Ok(Asked::TestNode { path, .. }) => of_table(alloc, path, "node", heard),
         _ => Ok(None),
     }
 }

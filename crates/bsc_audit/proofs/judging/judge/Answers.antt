@@ -1,8 +1,8 @@
 -- The hub lines, then the places, then the entries in order.
 use Rattle.std.proofs.Common.{◌≡◌, ◌<◌, ℕ, List, length, map, None, sym, subst, rules}
 use Rattle.std.specs.List.{range_with_len}
-use Rattle.bsc_places.specs.declared.spot.Spot.{Spot}
-use Rattle.bsc_places.specs.Places.{IsLeastMissing, IsLeastTwice}
+use Rattle.bsc_audit.specs.declared.places.spot.Spot.{Spot}
+use Rattle.bsc_audit.specs.Places.Places.{IsLeastMissing, IsLeastTwice}
 use Rattle.std.specs.Prelude.{IfSome}
 use Rattle.bsc_audit.specs.Explaining.{TellsOfEntry}
 use Rattle.bsc_audit.specs.Hearing.{AreInOrder}

@@ -1,7 +1,7 @@
 -- Each entry is judged behind those before it.
 use Rattle.std.proofs.Common.{List, length, ap, subst, arith}
 use Rattle.std.proofs.lemmas.Bool.{iff_false}
-use Rattle.bsc_places.specs.declared.spot.Spot.{Spot}
+use Rattle.bsc_audit.specs.declared.places.spot.Spot.{Spot}
 use Rattle.bsc_audit.proofs.Explained.{stays, told_of_next}
 use Rattle.bsc_audit.proofs.InTurn.{Judged, all_judged, illegal_next, next_judged, none_judged, one_judged}
 use Rattle.bsc_audit.proofs.judging.judge_entries.Goals as goal
@@ -63,7 +63,8 @@ returns-then-not-lawful-clause-tells c = λ H order.
     let j = subst (λ (s : List Spot). Judged c.args.about.now c.args.octets.now s c.loop-spot.legality c.loop-spot.place H) c.in-Some.ensures (c.loop-spot.invariant.judged H order) in
     let next = next_judged c.args.about.now c.args.octets.now c.in-Some.spot c.in-Some.rest.now c.loop-spot.legality c.loop-spot.place H j in
     let stands = stays c.loop-spot.legality c.judge_one.new.legality c.args.about.now next.done (c.in-Ok-judge_one.ensures.unchanged c.if-not-lawful.true) next.stands in
-    told_of_next c.args.about.now c.args.octets.now c.in-Some.spot c.in-Some.rest.now c.loop-spot.legality c.judge_one.new.legality c.loop-spot.place H next stands c.why_illegal_at.result c.why_illegal_at.ensures
+    told_of_next c.args.about.now c.args.octets.now c.in-Some.spot c.in-Some.rest.now c.loop-spot.legality c.judge_one.new.legality c.loop-spot.place H next stands c.why_illegal_at.result
+    c.why_illegal_at.ensures
 
 pub loop-spot-preserved : goal.loop-spot-preserved
 loop-spot-preserved c = record {

@@ -19,10 +19,12 @@ use Rattle.bsc_outside.proofs.Common.{risen_from as risen_since}
 pub reading-init : goal.reading-init
 reading-init g c = record {
   heard = subst (λ (x : List ℕ). HasHeard x c.nothing_heard-heard.result) (sym c.new-octets.ensures.items) c.nothing_heard-heard.ensures;
-  read = subst (λ (x : List ℕ). Consumes (g.S.Source.left c.args.source.now) (g.S.Source.left c.args.source.now) x) (sym c.new-octets.ensures.items) (consumes_none (g.S.Source.left c.args.source.now));
+  read = subst (λ (x : List ℕ). Consumes (g.S.Source.left c.args.source.now) (g.S.Source.left c.args.source.now) x) (sym c.new-octets.ensures.items)
+      (consumes_none (g.S.Source.left c.args.source.now));
   later = omega arith;
   room = omega (arith, c.in-Ok.ensures.len, c.in-Ok.chunk.ok.0);
-  told = subst (λ (x : List ℕ). HasRead (g.S.Source.reads c.args.source.now) (g.S.Source.reads c.args.source.now) x false) (sym c.new-octets.ensures.items) (read_nothing (g.S.Source.reads c.args.source.now));
+  told = subst (λ (x : List ℕ). HasRead (g.S.Source.reads c.args.source.now) (g.S.Source.reads c.args.source.now) x false) (sym c.new-octets.ensures.items)
+      (read_nothing (g.S.Source.reads c.args.source.now));
 }
 
 pub returns-in-Err-clause-stopped : goal.returns-in-Err-clause-stopped
@@ -60,8 +62,10 @@ returns-then-not-more-clause-read g c =
     let old = c.reading.octets.items in
     let new = c.read_more.new.octets.items in
     let read : Consumes (g.S.Source.left c.args.source.now) (g.S.Source.left c.read_more.new.source) old =
-    subst (λ (x : List ℕ). Consumes (g.S.Source.left c.args.source.now) (g.S.Source.left c.read_more.new.source) x) (append-nil old) (consumes_both (g.S.Source.left c.args.source.now) (g.S.Source.left c.reading.source) (g.S.Source.left c.read_more.new.source) old [] c.reading.invariant.read end.1) in
-    if_ok c.finish.result (λ t. (t.octets.items ≡ new) × HasHeardAll new t.heard) (λ t. Consumes (g.S.Source.left c.args.source.now) (g.S.Source.left c.read_more.new.source) t.octets.items × IsAtEnd (g.S.Source.left c.read_more.new.source))
+    subst (λ (x : List ℕ). Consumes (g.S.Source.left c.args.source.now) (g.S.Source.left c.read_more.new.source) x) (append-nil old)
+    (consumes_both (g.S.Source.left c.args.source.now) (g.S.Source.left c.reading.source) (g.S.Source.left c.read_more.new.source) old [] c.reading.invariant.read end.1) in
+    if_ok c.finish.result (λ t. (t.octets.items ≡ new) × HasHeardAll new t.heard)
+    (λ t. Consumes (g.S.Source.left c.args.source.now) (g.S.Source.left c.read_more.new.source) t.octets.items × IsAtEnd (g.S.Source.left c.read_more.new.source))
     c.finish.ensures.taken (λ t h. (subst (λ (x : List ℕ). Consumes (g.S.Source.left c.args.source.now) (g.S.Source.left c.read_more.new.source) x) (sym (h.0 ∙ end.0)) read, end.2))
 
 pub returns-then-not-more-clause-stopped : goal.returns-then-not-more-clause-stopped
@@ -70,9 +74,11 @@ returns-then-not-more-clause-stopped g c =
     let old = c.reading.octets.items in
     let new = c.read_more.new.octets.items in
     let read : Consumes (g.S.Source.left c.args.source.now) (g.S.Source.left c.read_more.new.source) old =
-    subst (λ (x : List ℕ). Consumes (g.S.Source.left c.args.source.now) (g.S.Source.left c.read_more.new.source) x) (append-nil old) (consumes_both (g.S.Source.left c.args.source.now) (g.S.Source.left c.reading.source) (g.S.Source.left c.read_more.new.source) old [] c.reading.invariant.read end.1) in
+    subst (λ (x : List ℕ). Consumes (g.S.Source.left c.args.source.now) (g.S.Source.left c.read_more.new.source) x) (append-nil old)
+    (consumes_both (g.S.Source.left c.args.source.now) (g.S.Source.left c.reading.source) (g.S.Source.left c.read_more.new.source) old [] c.reading.invariant.read end.1) in
     if_err c.finish.result (StopsAtEnd new) (λ r. (o : List ℕ) → g.S.Source.left c.args.source.now ≡ Some o → AnswersOf r o (g.S.Source.left c.read_more.new.source))
-    c.finish.ensures.stopped (λ r h o e. stops_at_end r (g.S.Source.left c.args.source.now) (g.S.Source.left c.read_more.new.source) o new h (subst (λ (x : List ℕ). Consumes (g.S.Source.left c.args.source.now) (g.S.Source.left c.read_more.new.source) x) (sym end.0) read) end.2 e)
+    c.finish.ensures.stopped (λ r h o e. stops_at_end r (g.S.Source.left c.args.source.now) (g.S.Source.left c.read_more.new.source) o new h
+    (subst (λ (x : List ℕ). Consumes (g.S.Source.left c.args.source.now) (g.S.Source.left c.read_more.new.source) x) (sym end.0) read) end.2 e)
 
 pub returns-in_default-clause-took : goal.returns-in_default-clause-took
 returns-in_default-clause-took g c = ([], gave_nothing (g.S.Source.reads c.args.source.now), λ rest may. (tt, tt))
@@ -80,7 +86,8 @@ returns-in_default-clause-took g c = ([], gave_nothing (g.S.Source.reads c.args.
 pub returns-in-Err-clause-took : goal.returns-in-Err-clause-took
 returns-in-Err-clause-took g c =
     let stops = subst (λ (x : List ℕ). StopsWithin x c.in-Err.end) c.as_slice.ensures.value c.in-Err.ensures.stopped in
-    of_reads (g.S.Source.reads c.args.source.now) (g.S.Source.reads c.reading.source) c.reading.octets.items false (λ (o rest : List ℕ). ⊤ × AnswersOf c.in-Err.end o (Some rest)) c.reading.invariant.told
+    of_reads (g.S.Source.reads c.args.source.now) (g.S.Source.reads c.reading.source) c.reading.octets.items false
+    (λ (o rest : List ℕ). ⊤ × AnswersOf c.in-Err.end o (Some rest)) c.reading.invariant.told
     (λ rest none. (tt, stops_here c.in-Err.end c.reading.octets.items rest stops))
 
 pub returns-in-Err-read_more-clause-took : goal.returns-in-Err-read_more-clause-took
@@ -121,11 +128,13 @@ pub reading-preserved : goal.reading-preserved
 reading-preserved g c =
     let more = c.in-Ok-read_more.ensures.more (ap (λ (b : Bool). Ok b) c.if-not-more.false) in
     let old = c.reading.octets.items in
-    let once = subst (λ (b : Bool). ReadsOnce (g.S.Source.reads c.reading.source) (g.S.Source.reads c.read_more.new.source) (Ok b) old c.read_more.new.octets.items) c.if-not-more.false c.in-Ok-read_more.ensures.once in
+    let once = subst (λ (b : Bool). ReadsOnce (g.S.Source.reads c.reading.source) (g.S.Source.reads c.read_more.new.source)
+    (Ok b) old c.read_more.new.octets.items) c.if-not-more.false c.in-Ok-read_more.ensures.once in
     let heard = subst (λ (x : List ℕ). HasHeard x c.go_on.new.heard) c.as_slice.ensures.value c.in_default-go_on.ensures.heard in
     record {
       heard = subst (λ (x : List ℕ). HasHeard x c.go_on.new.heard) (sym more.grown) (heard_more old more.chunk c.go_on.new.heard heard);
-      read = subst (λ (x : List ℕ). Consumes (g.S.Source.left c.args.source.now) (g.S.Source.left c.read_more.new.source) x) (sym more.grown) (consumes_both (g.S.Source.left c.args.source.now) (g.S.Source.left c.reading.source) (g.S.Source.left c.read_more.new.source) old more.chunk c.reading.invariant.read more.read);
+      read = subst (λ (x : List ℕ). Consumes (g.S.Source.left c.args.source.now) (g.S.Source.left c.read_more.new.source) x) (sym more.grown)
+          (consumes_both (g.S.Source.left c.args.source.now) (g.S.Source.left c.reading.source) (g.S.Source.left c.read_more.new.source) old more.chunk c.reading.invariant.read more.read);
       later = (let before = c.reading.invariant.later in let now = c.read_more.ensures.later in omega (arith, before, now));
       room = c.read_more.ensures.room;
       told = subst (λ (x : List ℕ). HasRead (g.S.Source.reads c.args.source.now) (g.S.Source.reads c.read_more.new.source) x false) (sym once.2)

@@ -23,7 +23,8 @@ loop-work-preserved c =
     let gone = c.in-Some.ensures.steps.1 in
     let short = ap (λ (l : List Work). length l) steps in (
       append_assoc at.yielded (w ∷ []) rest ∙ subst (λ (l : List Work). at.yielded ++ l ≡ into_iter_items c.into_iter-work-iterator.result) steps at.invariant.0,
-      joins_more h at.yielded w c.args.pass.now at.pass c.join.new.pass at.sum c.count_in-sum.result at.invariant.1 all.0 c.join.ensures.pass c.join.ensures.seen.2 c.join.ensures.loaded c.count_in-sum.ensures,
+      joins_more h at.yielded w c.args.pass.now at.pass c.join.new.pass at.sum c.count_in-sum.result at.invariant.1 all.0 c.join.ensures.pass c.join.ensures.seen.2 c.join.ensures.loaded
+          c.count_in-sum.ensures,
       all.1,
       omega (arith, at.invariant.3, gone, short),
     )

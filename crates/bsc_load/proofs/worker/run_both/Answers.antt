@@ -18,20 +18,24 @@ forward_all-octets-requires-clause-own g c =
     let p = c.args.pass.now in
     let j = c.in-Ok.joined in
     let who = c.receiver.result in
-    holds_by c.args.hub.now p c.connect.new.pass (connect_made (number_of p) who (Ok j)) c.requires.caller c.in-Ok.ensures.pass (connect_stays (number_of p) who (Ok j)) c.args.conn (sender c.args.i).vmac c.requires.own
+    holds_by c.args.hub.now p c.connect.new.pass (connect_made (number_of p) who (Ok j)) c.requires.caller c.in-Ok.ensures.pass (connect_stays (number_of p) who (Ok j)) c.args.conn
+    (sender c.args.i).vmac c.requires.own
 
 pub leave-requires-clause-caller : goal.leave-requires-clause-caller
-leave-requires-clause-caller g c = (forwards_went c.args.hub.now c.args.i c.args.conn c.connect.new.pass c.forward_all-octets.new.pass c.forward_all-octets.new.outlet c.forward_all-octets.result c.forward_all-octets.ensures.ran).0
+leave-requires-clause-caller g c =
+    (forwards_went c.args.hub.now c.args.i c.args.conn c.connect.new.pass c.forward_all-octets.new.pass c.forward_all-octets.new.outlet c.forward_all-octets.result c.forward_all-octets.ensures.ran).0
 
 pub leave-requires-clause-own : goal.leave-requires-clause-own
 leave-requires-clause-own g c =
-    let went = forwards_went c.args.hub.now c.args.i c.args.conn c.connect.new.pass c.forward_all-octets.new.pass c.forward_all-octets.new.outlet c.forward_all-octets.result c.forward_all-octets.ensures.ran in
+    let went = forwards_went c.args.hub.now c.args.i c.args.conn c.connect.new.pass c.forward_all-octets.new.pass c.forward_all-octets.new.outlet c.forward_all-octets.result
+    c.forward_all-octets.ensures.ran in
     let has = went.2 c.in-Ok.joined.conn c.receiver.result.vmac c.in-Ok.ensures.owns in
     has.0
 
 pub leave-requires-clause-mark : goal.leave-requires-clause-mark
 leave-requires-clause-mark g c =
-    let went = forwards_went c.args.hub.now c.args.i c.args.conn c.connect.new.pass c.forward_all-octets.new.pass c.forward_all-octets.new.outlet c.forward_all-octets.result c.forward_all-octets.ensures.ran in
+    let went = forwards_went c.args.hub.now c.args.i c.args.conn c.connect.new.pass c.forward_all-octets.new.pass c.forward_all-octets.new.outlet c.forward_all-octets.result
+    c.forward_all-octets.ensures.ran in
     mark_later c.connect.new.pass c.forward_all-octets.new.pass c.in-Ok.joined.conn (outlet_mark c.in-Ok.joined.outlet) went.1 c.in-Ok.ensures.mark ∙ ap Some (sym c.forward_all-octets.ensures.mark)
 
 pub returns-in-Err : goal.returns-in-Err

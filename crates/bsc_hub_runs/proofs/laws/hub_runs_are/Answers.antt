@@ -1,5 +1,0 @@
-use Rattle.bsc_hub_runs.proofs.Runs.{hub_runs_are}
-use Rattle.bsc_hub_runs.proofs.laws.hub_runs_are.Goals as goal
-
-pub returns : goal.returns
-returns g c = hub_runs_are _ _ _ _ _ _ _ c.serving_gives_sessions.ensures c.all_but_stop_are_of_jobs.ensures c.jobs_end_at_last.ensures c.jobs_are_apart.ensures

@@ -1,9 +1,0 @@
-//! The run of a hub that was served, as the theorem of networks takes it.
-//!
-//! Start at `specs/Runs.antt`, which says which run of a hub one of serving it is, and `specs/Commands.antt`, which says so of the
-//! command `hub`; `specs/Networks.antt` has networks of such hubs, and `laws` what is proved.
-#![tactic(auto)]
-
-mod laws;
-
-pub use laws::{hub_runs_are, hubs_ran, hubs_that_ran_deliver};

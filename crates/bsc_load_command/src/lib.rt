@@ -1,9 +1,0 @@
-//! The command `load`: the workload on a hub of its own, and what it writes.
-//!
-//! `command` runs the workload and writes what it came to.
-#![tactic(auto)]
-
-mod command;
-mod texts;
-
-pub use command::run_load;

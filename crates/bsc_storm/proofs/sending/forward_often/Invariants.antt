@@ -1,5 +1,0 @@
-use Rattle.bsc_storm.specs.Inner.{Sent}
-use Rattle.bsc_storm.proofs.sending.forward_often.Given as goal
-
-abbrev pub invariant-loop-id : goal.invariant-loop-id
-invariant-loop-id g l = Sent l.hub l.conn l.id l.fn.pass l.pass

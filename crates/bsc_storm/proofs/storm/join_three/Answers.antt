@@ -1,7 +1,0 @@
-use Rattle.bsc_storm.proofs.Joining.{joins_three}
-use Rattle.bsc_storm.proofs.storm.join_three.Goals as goal
-
-pub returns : goal.returns
-returns c =
-    joins_three c.args.hub.now c.args.pass.now c.join_one.new.pass c.join_one-2.new.pass c.join_one-3.new.pass c.args.x c.args.y c.args.z
-    c.join_one.ensures c.join_one-2.ensures c.join_one-3.ensures

@@ -1,9 +1,0 @@
-use Rattle.std.proofs.Common.{true}
-use Rattle.bsc_storm.specs.declared.works.Work.{Work}
-use Rattle.bsc_storm.proofs.Stays.{has_run}
-use Rattle.bsc_storm.proofs.working.run_sending.Goals as goal
-
-pub returns : goal.returns
-returns g c =
-    let w : Work = record { pass = c.send-taken.new.pass; taken = c.send-taken.result } in
-    has_run c.args.hub.now true c.args.rounds c.args.pass w c.requires.new c.send-taken.ensures
