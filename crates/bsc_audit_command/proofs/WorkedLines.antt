@@ -1,4 +1,5 @@
 -- What is written of an answer, worked by hand.
+-- No clause needs it: worked examples.
 use Rattle.std.proofs.Common.{inl, [], codes, Some, refl}
 use Rattle.std.specs.Fmt.{digits}
 use Rattle.bsc_audit.specs.declared.audit_end.AuditEnd.TheVariants.{Legal, Illegal}

@@ -1,4 +1,5 @@
 -- Octets have one verdict.
+-- It serves the clauses of `one_verdict`.
 use Rattle.std.proofs.Common.{◌≡◌, ℕ, ◌+◌, ◌<◌, ◌≤◌, ◌⊎◌, false, nat_eq, List, [], ◌∷◌, ◌++◌, length, take, drop, inl, inr, ⊎_elim, refl, ap, sym, ◌∙◌, subst, arith}
 use Rattle.std.specs.List.{AllByRecursion, IsDistinct, count_by}
 use Rattle.std.proofs.lemmas.Bool.{cases_eq, cases_order, eqb-false}
@@ -8,10 +9,10 @@ use Rattle.bsc_history.specs.declared.limits.About.{About}
 use Rattle.bsc_history.specs.Legality.{Legal}
 use Rattle.bsc_history.proofs.Parts.{Legal-first}
 use Rattle.bsc_text.specs.Lines.{pieces_of}
-use Rattle.bsc_places.specs.Places.{IsLeastMissing, IsLeastTwice}
-use Rattle.bsc_places.proofs.Counting.{often, often_here, often_there}
-use Rattle.bsc_places.proofs.Ranges.{none_missing, none_twice}
-use Rattle.bsc_journal.specs.declared.said.Said.{Said}
+use Rattle.bsc_audit.specs.Places.Places.{IsLeastMissing, IsLeastTwice}
+use Rattle.bsc_audit.proofs.PlaceFacts.Counting.{often, often_here, often_there}
+use Rattle.bsc_audit.proofs.PlaceFacts.Ranges.{none_missing, none_twice}
+use Rattle.bsc_journal.specs.declared.journal_record.JournalRecord.{JournalRecord}
 use Rattle.bsc_journal.specs.Journals.{Tells}
 use Rattle.bsc_journal.specs.Good.{IsGood, SayAll}
 use Rattle.bsc_journal.proofs.SaidOnce.{say_once}
@@ -33,7 +34,7 @@ AreOne r s = (r ≡ s) ⊎ (SaysNothing r ⊎ SaysNothing s)
 -- ---- bad lines
 
 -- where all lines are good, none is bad
-good_not_bad : (o : List ℕ) (k : ℕ) (said : List Said) → SayAll 0 (pieces_of o) said → IsFirstBad k o → ⊥
+good_not_bad : (o : List ℕ) (k : ℕ) (said : List JournalRecord) → SayAll 0 (pieces_of o) said → IsFirstBad k o → ⊥
 good_not_bad o k said all b =
     let says : SayAll 0 (b.good ++ b.bad ∷ b.rest) said = subst (λ (ps : List (List ℕ)). SayAll 0 ps said) b.pieces all in
     let good = say_at 0 b.good b.bad b.rest said says in
@@ -104,7 +105,8 @@ not_illegal_before : (o : List ℕ) (p q : ℕ) → IsLeastIllegal p o → IsLea
 not_illegal_before o p q i j less =
     let same = one_history o j.about i.about j.history i.history j.tells i.tells in
     let legal : Legal i.about (take q i.history) = subst (λ (H : List Entry). Legal i.about (take q H)) same.1 (subst (λ (x : About). Legal x (take q j.history)) same.0 j.before) in
-    let parted : Legal i.about (take (p + 1) (take q i.history) ++ drop (p + 1) (take q i.history)) = subst (λ (H : List Entry). Legal i.about H) (sym (take-append-drop (p + 1) (take q i.history))) legal in
+    let parted : Legal i.about (take (p + 1) (take q i.history) ++ drop (p + 1) (take q i.history)) =
+    subst (λ (H : List Entry). Legal i.about H) (sym (take-append-drop (p + 1) (take q i.history))) legal in
     let first = Legal-first i.about (take (p + 1) (take q i.history)) (drop (p + 1) (take q i.history)) parted in
     i.illegal (subst (λ (H : List Entry). Legal i.about H) (take-take (p + 1) q i.history (omega (arith, less))) first)
 
@@ -113,20 +115,20 @@ not_illegal_before o p q i j less =
 hubs_told : (o : List ℕ) (n : ℕ) (about : About) (H : List Entry) → Tells o about H → HasHubs n o → ⊥
 hubs_told o n about H t h = h.other (h.count ∙ one_hub_said o about H h.said t h.all)
 
-same_said : (o : List ℕ) (s t : List Said) → SayAll 0 (pieces_of o) s → SayAll 0 (pieces_of o) t → s ≡ t
+same_said : (o : List ℕ) (s t : List JournalRecord) → SayAll 0 (pieces_of o) s → SayAll 0 (pieces_of o) t → s ≡ t
 same_said o s t = say_once 0 (pieces_of o) s t
 
 one_hubs : (o : List ℕ) (n k : ℕ) → HasHubs n o → HasHubs k o → n ≡ k
-one_hubs o n k h g = h.count ∙ ap (λ (s : List Said). count_by is_hub s) (same_said o h.said g.said h.all g.all) ∙ sym g.count
+one_hubs o n k h g = h.count ∙ ap (λ (s : List JournalRecord). count_by is_hub s) (same_said o h.said g.said h.all g.all) ∙ sym g.count
 
-hubs_or_one : (o : List ℕ) (n : ℕ) (said : List Said) → HasHubs n o → SayOneHub o said → ⊥
-hubs_or_one o n said h s = h.other (h.count ∙ ap (λ (t : List Said). count_by is_hub t) (same_said o h.said said h.all s.all) ∙ s.one)
+hubs_or_one : (o : List ℕ) (n : ℕ) (said : List JournalRecord) → HasHubs n o → SayOneHub o said → ⊥
+hubs_or_one o n said h s = h.other (h.count ∙ ap (λ (t : List JournalRecord). count_by is_hub t) (same_said o h.said said h.all s.all) ∙ s.one)
 
-moved_twice : (o : List ℕ) (p : ℕ) (s t : List Said) → SayOneHub o s → SayOneHub o t → IsLeastTwice p (places_of s) → IsLeastTwice p (places_of t)
-moved_twice o p s t hs ht h = subst (λ (x : List Said). IsLeastTwice p (places_of x)) (same_said o s t hs.all ht.all) h
+moved_twice : (o : List ℕ) (p : ℕ) (s t : List JournalRecord) → SayOneHub o s → SayOneHub o t → IsLeastTwice p (places_of s) → IsLeastTwice p (places_of t)
+moved_twice o p s t hs ht h = subst (λ (x : List JournalRecord). IsLeastTwice p (places_of x)) (same_said o s t hs.all ht.all) h
 
-moved_missing : (o : List ℕ) (p : ℕ) (s t : List Said) → SayOneHub o s → SayOneHub o t → IsLeastMissing p (places_of s) → IsLeastMissing p (places_of t)
-moved_missing o p s t hs ht h = subst (λ (x : List Said). IsLeastMissing p (places_of x)) (same_said o s t hs.all ht.all) h
+moved_missing : (o : List ℕ) (p : ℕ) (s t : List JournalRecord) → SayOneHub o s → SayOneHub o t → IsLeastMissing p (places_of s) → IsLeastMissing p (places_of t)
+moved_missing o p s t hs ht h = subst (λ (x : List JournalRecord). IsLeastMissing p (places_of x)) (same_said o s t hs.all ht.all) h
 
 pub one_verdict : (o : List ℕ) (r s : AuditEnd) → AuditsTo o r → AuditsTo o s → AreOne r s
 one_verdict o ReadFault s h k = inr (inl tt)

@@ -2,7 +2,7 @@
 ghost use Rattle.std.specs.Prelude.{◌≡◌, ◌⊎◌, ◌++◌, ℕ, List};
 ghost use Rattle.bsc_history.specs.declared.limits.About.{About};
 ghost use Rattle.bsc_history.specs.declared.entry.Entry.{Entry};
-ghost use Rattle.bsc_journal.specs.declared.said.Said.{Said};
+ghost use Rattle.bsc_journal.specs.declared.journal_record.JournalRecord.{JournalRecord};
 ghost use Rattle.bsc_journal.specs.Journals.{Audited, Tells};
 ghost use Rattle.bsc_journal.specs.Saying.{IsLineOf, Says};
 ghost use Rattle.bsc_audit.specs.declared.audit_end.AuditEnd.{AuditEnd};
@@ -16,7 +16,7 @@ pub fn one_entry()
 
 /// A line says one thing.
 pub fn one_saying()
-    ensures { (l : List ℕ) (s t : Said) → Says l s → Says l t → s ≡ t }
+    ensures { (l : List ℕ) (s t : JournalRecord) → Says l s → Says l t → s ≡ t }
 {}
 
 /// Journals may be put one after another in any order, where each ends with the end of its last line.

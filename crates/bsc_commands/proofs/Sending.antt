@@ -1,4 +1,5 @@
 -- What a run writes of the words of a network tells what was sent.
+-- It serves the clauses of `run`.
 use Rattle.std.proofs.Common.{◌≡◌, ◌⊎◌, inl, inr, ℕ, List, ◌++◌, Option, Some, None, refl, sym, subst, append-nil, arith}
 use Rattle.std.specs.List.{concat}
 use Rattle.bsc_outside.specs.Faults.{PutsPrefix}
@@ -113,6 +114,7 @@ module _ (status : ℕ) (o t : List ℕ) (left held : Option (List ℕ)) (f f' :
       by (Some n) e = badly (s.refuses n e)
 
 -- the same of what the reads gave
-pub reads_write_what_was_sent : (status : ℕ) (t : List ℕ) (reads reads' : Option (List (List ℕ))) (held : Option (List ℕ)) (f f' : ℕ) → OfReads reads reads' (λ o rest. StatusTells simulate_of status o t (Some rest) held f f') → OfReads reads reads' (λ o rest. WritesWhatWasSent o t held)
+pub reads_write_what_was_sent : (status : ℕ) (t : List ℕ) (reads reads' : Option (List (List ℕ))) (held : Option (List ℕ)) (f f' : ℕ)
+    → OfReads reads reads' (λ o rest. StatusTells simulate_of status o t (Some rest) held f f') → OfReads reads reads' (λ o rest. WritesWhatWasSent o t held)
 reads_write_what_was_sent status t reads reads' held f f' told =
     (told.0, told.1, λ rest may. writes_what_was_sent status (concat told.0 ++ rest) t (Some rest) held f f' (told.2 rest may))

@@ -1,3 +1,4 @@
 pub mod Commands
 pub mod Outside
 pub mod Statuses
+pub mod Load

@@ -5,6 +5,7 @@
 //! those of `bsc_sockets`.
 #![tactic(auto)]
 
+mod load;
 mod outside;
 mod playing;
 mod running;

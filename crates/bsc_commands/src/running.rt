@@ -14,34 +14,38 @@ ghost use Rattle.bsc_audit_command.specs.Audits.{RunsAudit};
 ghost use Rattle.bsc_policy.specs.declared.policy.Policy.{Policy};
 ghost use Rattle.bsc_settings.specs.declared.hub.HubSettings.{HubSettings};
 ghost use Rattle.bsc_session.specs.Jobs.{Worked};
+ghost use Rattle.bsc_serve.specs.Asking.{asking_by};
 ghost use Rattle.bsc_hub_command.specs.Served.{HasFailed, HubRuns, door_by, stock_by, telling, world_by};
 ghost use Rattle.bsc_hub_command.specs.Settled.{IsSettled, Unsettled};
-ghost use Rattle.bsc_load_command.specs.Loaded.{RunsLoad};
+ghost use Rattle.bsc_hub_command.specs.Tested.{TestsHub};
+ghost use Rattle.bsc_commands.specs.Load.Loaded.{RunsLoad};
 ghost use Rattle.bsc_node_command.specs.Comes.{RunsFiles, acceptor_world, node_world};
+ghost use Rattle.bsc_node_command.specs.Tested.{TestsNode};
 ghost use Rattle.bsc_node_run.specs.declared.due.Due.{Due};
 ghost use Rattle.bsc_node_run.specs.Drawing.{Draws};
 ghost use Rattle.bsc_node_run.specs.Scripts.{script_of, wish_of};
 ghost use Rattle.bsc_node_run.specs.Worlds.{dialling};
 ghost use Rattle.bsc_node_laws.specs.Courses.{FinishCame};
-ghost use Rattle.bsc_words.specs.declared.fault.WordsFault.TheVariants as words_fault;
-ghost use Rattle.bsc_words.specs.Read.{asked_in};
-ghost use Rattle.bsc_words.specs.Words.{audit, check, hub, load, node, replay, seen, simulate};
+ghost use Rattle.bsc_cli.specs.declared.fault.WordsFault.TheVariants as words_fault;
+ghost use Rattle.bsc_cli.specs.Read.{asked_in};
+ghost use Rattle.bsc_cli.specs.Words.{audit, check, hub, load, node, replay, seen, simulate, test_hub, test_node};
 ghost use Rattle.bsc_commands.specs.Commands.{WritesWhatWasSent};
-ghost use Rattle.bsc_commands.specs.Outside.{TouchesOnly};
+ghost use Rattle.bsc_commands.specs.Outside.{LeavesAsker, TouchesOnly};
 ghost use Rattle.bsc_commands.specs.Statuses.{EndsBy};
 
+use crate::load::run_load;
 use crate::outside::Outside;
 use crate::playing::{Command, play};
 use bsc_audit_command::run_audit;
+use bsc_cli::{Asked, ReadWords, WORKERS, WordsFault};
 use bsc_edge::{Acceptor, Clock, Dialer, Files, Journals, Link, Spawner, Waiter};
-use bsc_hub_command::{HubWords, run_hub};
-use bsc_load_command::run_load;
-use bsc_node_command::{NodeWords, run_node_files};
+use bsc_hub_command::{HubWords, run_hub, test_hub};
+use bsc_node_command::{NodeWords, run_node_files, test_node};
 use bsc_node_run::Words;
 use bsc_outside::{Sink, Source};
 use bsc_player::{end_with, out_of_memory};
+use bsc_serve::StopAsker;
 use bsc_session::SessionJob;
-use bsc_words::{Asked, ReadWords, WORKERS, WordsFault};
 use std::alloc::Global;
 use std::sync::Wait;
 use std::thread::Threads;
@@ -60,7 +64,7 @@ fn end_unasked<K: Sink>(sink: &mut K, fault: WordsFault) -> u8
     }
 }
 
-/// Does what is asked for: serves a hub, runs a node or a workload, or plays or audits the source.
+/// Does what is asked for: serves a hub, runs a node or a workload, tries settings, or plays or audits the source.
 fn run_asked<
     R: Threads + Wait + Sync,
     S: Source,
@@ -75,31 +79,33 @@ fn run_asked<
     N: Sink + Drop,
     J: Journals<N>,
     P: Spawner<SessionJob<L, C, N>>,
+    Q: StopAsker,
 >(
     rt: &R,
     alloc: Global,
     asked: Asked<'_>,
     outside: &mut Outside<S, K, F, C, V, W, A, D, N, J, P>,
+    asker: &mut Q,
 ) -> u8
     requires can { P.can_start outside.old.parts.spawner }
     requires kept { outside.old.place.kept.hub ≡ None }
     requires own { outside.old.place.own ≡ None }
     requires workers { (n : ℕ) → seen asked ≡ load n → (1 ≤ n) × (n ≤ WORKERS) }
-    ensures hub { (path : Text) (sessions : Option ℕ) (journal : Option Text) (made : _) →
-        seen asked.entry ≡ hub path sessions journal → outside.new.place.kept.hub ≡ Some made →
+    ensures hub { (path : Text) (sessions : Option ℕ) (journal stop_file : Option Text) (made : _) →
+        seen asked.entry ≡ hub path sessions journal stop_file → outside.new.place.kept.hub ≡ Some made →
         (v : HubSettings) × (policy : Option Policy) × IsSettled (GaveFile F.holds F.loads outside.old.files outside.new.files path) v policy
         × HubRuns (telling (Worked L.talk L.faults L.notices C.readings N.held N.faults) J.begins L.talk N.held N.faults)
         (record { settings = v; policy = policy; sessions = sessions; prefix = journal })
         outside.new.place
-        (world_by (door_by A.left A.came A.waits A.quiets A.bound A.faults) (stock_by P.jobs P.ends P.out P.faults) J.calls J.faults outside.old.parts (K.held outside.old.sink))
-        (world_by (door_by A.left A.came A.waits A.quiets A.bound A.faults) (stock_by P.jobs P.ends P.out P.faults) J.calls J.faults outside.new.parts (K.held outside.new.sink))
+        (world_by (door_by A.left A.came A.waits A.quiets A.bound A.faults) (stock_by P.jobs P.ends P.out P.faults) J.calls J.faults outside.old.parts (K.held outside.old.sink) (asking_by Q.looks Q.asked Q.endings asker.old))
+        (world_by (door_by A.left A.came A.waits A.quiets A.bound A.faults) (stock_by P.jobs P.ends P.out P.faults) J.calls J.faults outside.new.parts (K.held outside.new.sink) (asking_by Q.looks Q.asked Q.endings asker.new))
         result }
-    ensures no_hub { (path : Text) (sessions : Option ℕ) (journal : Option Text) →
-        seen asked.entry ≡ hub path sessions journal → outside.new.place.kept.hub ≡ None →
+    ensures no_hub { (path : Text) (sessions : Option ℕ) (journal stop_file : Option Text) →
+        seen asked.entry ≡ hub path sessions journal stop_file → outside.new.place.kept.hub ≡ None →
         Unsettled (GaveFile F.holds F.loads outside.old.files outside.new.files path) (F.faults outside.old.files) (F.faults outside.new.files) result
         (K.held outside.old.sink) (K.held outside.new.sink) }
-    ensures no_hub_untouched { (path : Text) (sessions : Option ℕ) (journal : Option Text) →
-        seen asked.entry ≡ hub path sessions journal → outside.new.place.kept.hub ≡ None →
+    ensures no_hub_untouched { (path : Text) (sessions : Option ℕ) (journal stop_file : Option Text) →
+        seen asked.entry ≡ hub path sessions journal stop_file → outside.new.place.kept.hub ≡ None →
         (outside.new.place ≡ outside.old.place) × (outside.new.parts ≡ outside.old.parts) }
     ensures node { (path script : Text) → seen asked.entry ≡ node path script →
         RunsFiles L.talk (Draws W.gives W.faults)
@@ -121,9 +127,24 @@ fn run_asked<
         (o : List ℕ) × GaveFile F.holds F.loads outside.old.files outside.new.files script o
         × (lines : List Due) × (script_of o ≡ Ok (map wish_of lines))
         × FinishCame lines (C.readings outside.old.parts.clock) (C.readings outside.new.parts.clock) }
-    ensures hub_read { (path : Text) (sessions : Option ℕ) (journal : Option Text) → seen asked.entry ≡ hub path sessions journal →
+    ensures hub_read { (path : Text) (sessions : Option ℕ) (journal stop_file : Option Text) → seen asked.entry ≡ hub path sessions journal stop_file →
         ReadsFirstOf (F.loads outside.old.files) (F.loads outside.new.files) (path ∷ []) }
     ensures node_read { (path script : Text) → seen asked.entry ≡ node path script →
+        ReadsFirstOf (F.loads outside.old.files) (F.loads outside.new.files) (path ∷ script ∷ []) }
+    ensures hub_tested { (path : Text) → seen asked.entry ≡ test_hub path →
+        TestsHub (GaveFile F.holds F.loads outside.old.files outside.new.files path) (F.faults outside.old.files) (F.faults outside.new.files) result
+        (K.held outside.old.sink) (K.held outside.new.sink) }
+    ensures node_tested { (path script : Text) → seen asked.entry ≡ test_node path script →
+        TestsNode
+        (record {
+          settings = GaveFile F.holds F.loads outside.old.files outside.new.files path;
+          script = GaveFile F.holds F.loads outside.old.files outside.new.files script;
+        })
+        (record { unread = F.faults outside.old.files; written = K.held outside.old.sink })
+        (record { unread = F.faults outside.new.files; written = K.held outside.new.sink }) result }
+    ensures hub_test_read { (path : Text) → seen asked.entry ≡ test_hub path →
+        ReadsFirstOf (F.loads outside.old.files) (F.loads outside.new.files) (path ∷ []) }
+    ensures node_test_read { (path script : Text) → seen asked.entry ≡ test_node path script →
         ReadsFirstOf (F.loads outside.old.files) (F.loads outside.new.files) (path ∷ script ∷ []) }
     ensures load { (n : ℕ) (made : _) → seen asked.entry ≡ load n → outside.new.place.kept.hub ≡ Some made →
         RunsLoad n outside.new.place.kept made result (K.held outside.old.sink) (K.held outside.new.sink) }
@@ -154,6 +175,7 @@ fn run_asked<
     ensures source { (seen asked.entry ≡ replay) ⊎ (seen asked.entry ≡ simulate) ⊎ (seen asked.entry ≡ check)
         ⊎ (seen asked.entry ≡ audit) → result ≡ 3 → HasRisen (S.faults outside.old.source) (S.faults outside.new.source) }
     ensures untouched { TouchesOnly (Some (seen asked.entry)) outside.old outside.new }
+    ensures unasked { LeavesAsker (Some (seen asked.entry)) outside.new.place.kept.hub asker.old asker.new }
     ensures statuses { EndsBy (Some (seen asked.entry)) result }
     ensures read { result ≡ 3 → HasRisen (S.faults outside.old.source) (S.faults outside.new.source)
         ⊎ HasRisen (F.faults outside.old.files) (F.faults outside.new.files) }
@@ -191,19 +213,25 @@ fn run_asked<
             path,
             sessions,
             journal,
-        } => run_hub(
-            rt,
-            alloc,
-            HubWords {
-                path,
-                sessions,
-                journal,
-            },
-            &mut outside.files,
-            &mut outside.place,
-            &mut outside.sink,
-            &mut outside.parts,
-        ),
+            stop_file,
+        } => {
+            // The asker was made of it.
+            let _ = stop_file;
+            run_hub(
+                rt,
+                alloc,
+                HubWords {
+                    path,
+                    sessions,
+                    journal,
+                },
+                &mut outside.files,
+                &mut outside.place,
+                &mut outside.sink,
+                &mut outside.parts,
+                asker,
+            )
+        }
         Asked::Node { path, script } => run_node_files(
             alloc,
             NodeWords { path, script },
@@ -217,16 +245,25 @@ fn run_asked<
             let kept = &mut outside.place.kept;
             run_load(rt, alloc, workers, &mut outside.sink, kept)
         }
+        Asked::TestHub { path } => {
+            let files = &mut outside.files;
+            test_hub(alloc, path, files, &mut outside.sink)
+        }
+        Asked::TestNode { path, script } => {
+            let words = NodeWords { path, script };
+            test_node(alloc, words, &mut outside.files, &mut outside.sink)
+        }
     }
 }
 
-/// Runs the program by its words, as they were read, and answers its status: serves a hub, runs a node or a workload, or
-/// plays or audits the source.
+/// Runs the program by its words, as they were read, and answers its status: serves a hub, which the asker may stop, runs a node
+/// or a workload, tries settings, or plays or audits the source.
 ///
 /// | status | cause | last line written |
 /// |---|---|---|
-/// | 0 | the input was read to its end and its text was written; the sessions of the hub, the node, or all workers have ended | none of its own |
+/// | 0 | the input was read to its end and its text was written; the sessions of the hub, the node, or all workers have ended; the stop of the hub was asked for | none of its own |
 /// | 0 | the journals tell a legal history of n entries | `legal n` |
+/// | 0 | the settings that are tried are good, and are written | none of its own |
 /// | 1 | the words are no command | `fault words` |
 /// | 2 | line n of the input, or of the node's script, is refused | `fault script line n` |
 /// | 3 | a read of the source, of the settings or of the node's script failed | `fault read` |
@@ -251,33 +288,35 @@ pub fn run<
     N: Sink + Drop,
     J: Journals<N>,
     P: Spawner<SessionJob<L, C, N>>,
+    Q: StopAsker,
 >(
     rt: &R,
     alloc: Global,
     read: &ReadWords<'_>,
     outside: &mut Outside<S, K, F, C, V, W, A, D, N, J, P>,
+    asker: &mut Q,
 ) -> u8
     requires can { P.can_start outside.old.parts.spawner }
     requires kept { outside.old.place.kept.hub ≡ None }
     requires own { outside.old.place.own ≡ None }
 
     // Of the words of a hub: once it is made, its settings and its policy are those of the file, and this is what became of it and
-    // of its own journal, with journals under the prefix of the words.
-    ensures hub { (path : Text) (sessions : Option ℕ) (journal : Option Text) (made : _) →
-        asked_in read.now ≡ Some (hub path sessions journal) → outside.new.place.kept.hub ≡ Some made →
+    // of its own journal, with journals under the prefix of the words. It was stopped on request only where the asker asked.
+    ensures hub { (path : Text) (sessions : Option ℕ) (journal stop_file : Option Text) (made : _) →
+        asked_in read.now ≡ Some (hub path sessions journal stop_file) → outside.new.place.kept.hub ≡ Some made →
         (v : HubSettings) × (policy : Option Policy) × IsSettled (GaveFile F.holds F.loads outside.old.files outside.new.files path) v policy
         × HubRuns (telling (Worked L.talk L.faults L.notices C.readings N.held N.faults) J.begins L.talk N.held N.faults)
         (record { settings = v; policy = policy; sessions = sessions; prefix = journal })
         outside.new.place
-        (world_by (door_by A.left A.came A.waits A.quiets A.bound A.faults) (stock_by P.jobs P.ends P.out P.faults) J.calls J.faults outside.old.parts (K.held outside.old.sink))
-        (world_by (door_by A.left A.came A.waits A.quiets A.bound A.faults) (stock_by P.jobs P.ends P.out P.faults) J.calls J.faults outside.new.parts (K.held outside.new.sink))
+        (world_by (door_by A.left A.came A.waits A.quiets A.bound A.faults) (stock_by P.jobs P.ends P.out P.faults) J.calls J.faults outside.old.parts (K.held outside.old.sink) (asking_by Q.looks Q.asked Q.endings asker.old))
+        (world_by (door_by A.left A.came A.waits A.quiets A.bound A.faults) (stock_by P.jobs P.ends P.out P.faults) J.calls J.faults outside.new.parts (K.held outside.new.sink) (asking_by Q.looks Q.asked Q.endings asker.new))
         result }
-    ensures no_hub { (path : Text) (sessions : Option ℕ) (journal : Option Text) →
-        asked_in read.now ≡ Some (hub path sessions journal) → outside.new.place.kept.hub ≡ None →
+    ensures no_hub { (path : Text) (sessions : Option ℕ) (journal stop_file : Option Text) →
+        asked_in read.now ≡ Some (hub path sessions journal stop_file) → outside.new.place.kept.hub ≡ None →
         Unsettled (GaveFile F.holds F.loads outside.old.files outside.new.files path) (F.faults outside.old.files) (F.faults outside.new.files) result
         (K.held outside.old.sink) (K.held outside.new.sink) }
-    ensures no_hub_untouched { (path : Text) (sessions : Option ℕ) (journal : Option Text) →
-        asked_in read.now ≡ Some (hub path sessions journal) → outside.new.place.kept.hub ≡ None →
+    ensures no_hub_untouched { (path : Text) (sessions : Option ℕ) (journal stop_file : Option Text) →
+        asked_in read.now ≡ Some (hub path sessions journal stop_file) → outside.new.place.kept.hub ≡ None →
         (outside.new.place ≡ outside.old.place) × (outside.new.parts ≡ outside.old.parts) }
 
     // Of the words of a node: what became of it, by its settings and its script as they were in their files.
@@ -306,9 +345,26 @@ pub fn run<
         × FinishCame lines (C.readings outside.old.parts.clock) (C.readings outside.new.parts.clock) }
 
     // The files that these words name were read, each once and in their order, up to the first that wasn't good, and no other.
-    ensures hub_read { (path : Text) (sessions : Option ℕ) (journal : Option Text) → asked_in read.now ≡ Some (hub path sessions journal) →
+    ensures hub_read { (path : Text) (sessions : Option ℕ) (journal stop_file : Option Text) → asked_in read.now ≡ Some (hub path sessions journal stop_file) →
         ReadsFirstOf (F.loads outside.old.files) (F.loads outside.new.files) (path ∷ []) }
     ensures node_read { (path script : Text) → asked_in read.now ≡ Some (node path script) →
+        ReadsFirstOf (F.loads outside.old.files) (F.loads outside.new.files) (path ∷ script ∷ []) }
+
+    // Of the words that try settings, what is written of these: of each its value and whether that is the default, where they are good.
+    ensures hub_tested { (path : Text) → asked_in read.now ≡ Some (test_hub path) →
+        TestsHub (GaveFile F.holds F.loads outside.old.files outside.new.files path) (F.faults outside.old.files) (F.faults outside.new.files) result
+        (K.held outside.old.sink) (K.held outside.new.sink) }
+    ensures node_tested { (path script : Text) → asked_in read.now ≡ Some (test_node path script) →
+        TestsNode
+        (record {
+          settings = GaveFile F.holds F.loads outside.old.files outside.new.files path;
+          script = GaveFile F.holds F.loads outside.old.files outside.new.files script;
+        })
+        (record { unread = F.faults outside.old.files; written = K.held outside.old.sink })
+        (record { unread = F.faults outside.new.files; written = K.held outside.new.sink }) result }
+    ensures hub_test_read { (path : Text) → asked_in read.now ≡ Some (test_hub path) →
+        ReadsFirstOf (F.loads outside.old.files) (F.loads outside.new.files) (path ∷ []) }
+    ensures node_test_read { (path script : Text) → asked_in read.now ≡ Some (test_node path script) →
         ReadsFirstOf (F.loads outside.old.files) (F.loads outside.new.files) (path ∷ script ∷ []) }
 
     // Of the words of a workload: once its hub is made, this is what became of it; else memory ran out.
@@ -360,9 +416,10 @@ pub fn run<
         EndsWith result 1 (K.held outside.old.sink) (K.held outside.new.sink) words_line
         ⊎ RanOut result (K.held outside.old.sink) (K.held outside.new.sink) }
 
-    // What the command that is asked for doesn't use is as it was: all, where none is. Only its own statuses come of it; status 1
-    // of words that ask for nothing alone.
+    // What the command that is asked for doesn't use is as it was: all, where none is; and the asker, but where a hub is made. Only its
+    // own statuses come of it; status 1 of words that ask for nothing alone.
     ensures untouched { TouchesOnly (asked_in read.now) outside.old outside.new }
+    ensures unasked { LeavesAsker (asked_in read.now) outside.new.place.kept.hub asker.old asker.new }
     ensures statuses { EndsBy (asked_in read.now) result }
 
     // Faults of the source, the files, the sink and the acceptor are counted. Where an input is played or audited, status 3 is the
@@ -377,7 +434,7 @@ pub fn run<
     ensures link { RisesIf result 6 (A.faults outside.old.parts.acceptor) (A.faults outside.new.parts.acceptor) }
 {
     match read.asked {
-        Ok(asked) => run_asked(rt, alloc, asked, outside),
+        Ok(asked) => run_asked(rt, alloc, asked, outside, asker),
         Err(fault) => end_unasked(&mut outside.sink, fault),
     }
 }

@@ -2,7 +2,7 @@
 //!
 //! Start at `Diagnostic` (`src/diagnostic.rt`): the first rule, from the left, that a line breaks. `src/rules.rt` has the rules
 //! of words that several languages of lines share, and `Shown` (`src/shown.rt`) octets as they are shown. A crate for each kind of
-//! input stands above: `bsc_line_diagnostics`, `bsc_network_diagnostics`, `bsc_settings_diagnostics`, `bsc_words_diagnostics`.
+//! input stands above: `bsc_line_diagnostics`, `bsc_network_diagnostics`, `bsc_settings_diagnostics`, `bsc_cli_diagnostics`.
 #![tactic(auto)]
 
 mod cutting;

@@ -1,14 +1,19 @@
 -- A hub that was served on a port that was bound.
-use Rattle.std.proofs.Common.{inl, inr, ◌≡◌, ℕ, List, Option, Some, None, refl, sym, ◌∙◌, subst, arith}
-use Rattle.std.specs.Prelude.{◌⊎◌, ◌≤◌, ◌≢◌}
+-- It serves clauses of functions of `command` and `serving`.
+use Rattle.std.proofs.Common.{inl, inr, ◌≡◌, ℕ, Bool, false, List, [], ◌∷◌, ◌++◌, map, Option, Some, None, refl, sym, ◌∙◌, subst, arith}
+use Rattle.std.specs.Prelude.{◌⊎◌, ◌≤◌, ◌≢◌, replicate}
+use Rattle.bsc_history.specs.declared.entry.Entry.{Entry}
+use Rattle.bsc_turn.specs.Passes.{own_list}
 use Rattle.bsc_outside.specs.Faults.{HasRisen}
 use Rattle.bsc_player.specs.LastLines.{RanOut}
 use Rattle.bsc_edge.specs.declared.fault.LinkFault.{LinkFault}
 use Rattle.bsc_edge.specs.declared.fault.LinkFault.TheVariants.{Failed}
-use Rattle.bsc_edge.specs.Told.{Stays, ToldIs}
+use Rattle.bsc_edge.specs.Told.{Grows, Stays, ToldIs}
 use Rattle.bsc_edge.proofs.Common.{grows_from}
 use Rattle.bsc_serve.specs.declared.end.ServeEnd.{ServeEnd}
 use Rattle.bsc_serve.specs.declared.terms.ServeTerms.{ServeTerms}
+use Rattle.bsc_serve.specs.declared.session_look.SessionLook.{SessionLook}
+use Rattle.bsc_serve.specs.Asking.{AskedSo, Asking, last_look, look_at}
 use Rattle.bsc_serve.specs.Serving.{Loses, RoseBy, Serving}
 use Rattle.bsc_serve.specs.Terms.{all_terms}
 use Rattle.bsc_serve.specs.Worlds.{ServeWorld, served_world}
@@ -30,17 +35,40 @@ rose_from : (n a b c : ℕ) → a ≤ b → RoseBy n b c → RoseBy n a c
 rose_from n a b c later (inl x) = inl (omega (arith, later, x))
 rose_from n a b c later (inr x) = inr x
 
+-- it was looked so since the acceptor was bound, and until the asker was told of the end
+looks_so : (own : List Entry) (l m n : Option (List ℕ)) (a b c : Asking) (end : ServeEnd) → Stays l m → AskedSo own m n a b end → c.looks ≡ b.looks → c.asked ≡ b.asked
+    → AskedSo own l n a (record c { endings = a.endings }) end
+looks_so own l m n a b c end still looks told same =
+    let k = looks.looked in
+    let later : a.asked ≤ c.asked = (let x = k.later in omega (arith, x, same)) in
+    record {
+      is_asked = looks.is_asked;
+      looked = record {
+        asks = k.asks;
+        waited = grows_from l m n _ still k.waited;
+        looks = subst (λ (x : Option (List SessionLook)). Grows a.looks x (map (look_at own) (replicate k.asks false ++ last_look looks.is_asked))) (sym told) k.looks;
+        rose = λ e. subst (λ (x : ℕ). HasRisen a.asked x) (sym same) (k.rose e);
+        later = later;
+        endings = refl;
+      };
+      ends = looks.ends;
+    }
+
 module _ {L C N : Type 0} (tells : HubTelling L C N) where
   pub bound_so : (asked : HubTerms) (k : HubCourse) (titled held' : Option (List ℕ)) (before after : HubWorld L C N) (links came : Option (List L))
       (waits : Option (List ℕ)) (quiets : ℕ) (told : Option (Option ℕ)) (s : ℕ) (end : ServeEnd) (terms : ServeTerms) (port : ℕ)
       → terms ≡ terms_by asked.settings asked.sessions → port ≡ asked.settings.port → ToldIs told (Some port) → Stays told after.port
       → Stays before.links links → Stays before.came came → Stays before.waits waits → before.quiets ≤ quiets
-      → Serving tells.works tells.begins tells.talk (all_terms terms asked.prefix asked.policy) (served_world k.hub titled (record (with_pass k.first before) { links = links; came = came; waits = waits; quiets = quiets })) (served_world k.hub held' (with_pass k.last after)) end
-      → SaysEnd end s before.written after.written → Bound tells k asked titled held' before after s
-  bound_so asked k titled held' before after links came waits quiets told s end terms port same same_port bound stays left arrived asks later serving says =
+      → Serving tells.works tells.begins tells.talk (all_terms terms asked.prefix asked.policy)
+      (served_world k.hub titled (record (with_pass k.first before) { links = links; came = came; waits = waits; quiets = quiets })) (served_world k.hub held' (with_pass k.last after)) end
+      → SaysEnd end s before.written after.written → (mid : Asking) → AskedSo (own_list k.first) waits after.waits before.asking mid end
+      → after.asking.looks ≡ mid.looks → after.asking.asked ≡ mid.asked → Grows mid.endings after.asking.endings (after.written ∷ [])
+      → Bound tells k asked titled held' before after s
+  bound_so asked k titled held' before after links came waits quiets told s end terms port same same_port bound stays left arrived asks later serving says mid looks looks_same asks_same ended =
       let first : ServeWorld L C N = record (with_pass k.first before) { links = links; came = came; waits = waits; quiets = quiets } in
       let b : Serving tells.works tells.begins tells.talk (terms_of asked) (served_world k.hub titled first) (served_world k.hub held' (with_pass k.last after)) end =
-      subst (λ (t : ServeTerms). Serving tells.works tells.begins tells.talk (all_terms t asked.prefix asked.policy) (served_world k.hub titled first) (served_world k.hub held' (with_pass k.last after)) end) same serving in
+      subst (λ (t : ServeTerms). Serving tells.works tells.begins tells.talk (all_terms t asked.prefix asked.policy) (served_world k.hub titled first)
+      (served_world k.hub held' (with_pass k.last after)) end) same serving in
       record {
         end = end;
         bound = tells_still told after.port (Some asked.settings.port) (subst (λ (n : ℕ). ToldIs told (Some n)) same_port bound) stays;
@@ -85,6 +113,8 @@ module _ {L C N : Type 0} (tells : HubTelling L C N) where
           ends = b.ends;
         };
         says = says;
+        looks = looks_so (own_list k.first) before.waits waits after.waits before.asking mid after.asking end asks looks looks_same asks_same;
+        told = subst (λ (x : Option (List (Option (List ℕ)))). Grows x after.asking.endings (after.written ∷ [])) looks.looked.endings ended;
       }
 
 -- what is said where the own journal failed
@@ -137,6 +167,7 @@ module _ {L C N : Type 0} (tells : HubTelling L C N) (k : HubCourse) (asked : Hu
       given_back = u.untouched.given_back;
       out = u.untouched.out;
       unstarted = u.untouched.unstarted;
+      asking = u.untouched.asking;
     };
     unasked = u.unasked;
     stops = u.stops;
@@ -154,13 +185,14 @@ module _ {L C N : Type 0} (tells : HubTelling L C N) (k : HubCourse) (asked : Hu
     out = b.out;
     unstarted = b.unstarted;
     begun = b.begun;
+    asking = b.asking;
     failed = b.failed;
     says = b.says;
   }
 
   bound_since : (titled held' : Option (List ℕ)) → Bound tells k asked titled held' (record before { unbegun = n }) after s
       → Bound tells k asked titled held' before after s
-  bound_since titled held' b = record { end = b.end; bound = b.bound; serving = b.serving; says = b.says }
+  bound_since titled held' b = record { end = b.end; bound = b.bound; serving = b.serving; says = b.says; looks = b.looks; told = b.told }
 
   went_since : (titled : Option (List ℕ))
       → (NotBound k (record before { unbegun = n }) after s × (tells.held own ≡ titled)) ⊎ Bound tells k asked titled (tells.held own) (record before { unbegun = n }) after s

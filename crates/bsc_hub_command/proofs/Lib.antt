@@ -2,4 +2,5 @@ mod Binding
 mod Stopping
 mod HubBack
 mod Settling
+mod Loading
 mod WorkedHubLine

@@ -1,4 +1,5 @@
 -- A hub by settings is one that a script may make.
+-- It serves the clauses of `make_hub`.
 use Rattle.std.proofs.Common.{◌≡◌, ℕ, ◌≤◌, Bool, true, false, not, ◌||◌, refl, ◌*◌}
 use Rattle.std.proofs.lemmas.Bool.{and_from, le-leb}
 use Rattle.bsc_octets.specs.declared.bounds.TheConstants.{LEAST_BVLC}

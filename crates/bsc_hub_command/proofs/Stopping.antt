@@ -1,4 +1,5 @@
 -- What the stop of a hub that isn't served answers.
+-- It serves the clauses of `stop_alone`.
 use Rattle.std.proofs.Common.{◌≡◌, ℕ, take, true, false, Ok, Err}
 use Rattle.std.specs.Prelude.{Result, IfErr, IfOk, IsErr, IsTrue, ◌↔◌, Some, position}
 use Rattle.std.proofs.lemmas.Bool.{false_from_ne_true}

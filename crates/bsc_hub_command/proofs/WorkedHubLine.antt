@@ -1,4 +1,5 @@
 -- The hub line, worked by hand: what is written of a hub, and the hub that these words are read as.
+-- No clause needs it: worked examples.
 use Rattle.std.proofs.Common.{◌≡◌, [], ◌∷◌, codes, Some, refl}
 use Rattle.uuid.proofs.OnLiterals.{uuid_on_literals}
 use Rattle.bsc_history.specs.declared.limits.About.{About}

@@ -11,7 +11,7 @@ unstarted_line n = if n == 0 then [] else codes "unstarted " ++ decimal n ++ cod
 abbrev pub stopped_text : List ℕ
 stopped_text = codes "hub stopped already\n"
 
--- what is written of an end that all sessions came to: how many links got none, and the counts of the stop, if it was made
+-- what is written of an end that all sessions came to, or that was asked for: how many links got none, and the counts of the stop, if it was made
 abbrev pub end_text : ℕ → Option Counts → List ℕ
 end_text unstarted (Some c) = unstarted_line unstarted ++ counts_text c
 end_text unstarted None = unstarted_line unstarted ++ stopped_text

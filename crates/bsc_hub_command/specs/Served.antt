@@ -25,9 +25,10 @@ use Rattle.bsc_session.specs.Jobs.{policy_of}
 use Rattle.bsc_settings.specs.declared.hub.HubSettings.{HubSettings}
 use Rattle.bsc_settings.specs.Parts.{identity_of, limits_of, times_of}
 use Rattle.bsc_serve.specs.declared.end.ServeEnd.{ServeEnd}
-use Rattle.bsc_serve.specs.declared.end.ServeEnd.TheVariants.{Done, StoppedBefore, AcceptFault, JournalFault, NoMemory}
+use Rattle.bsc_serve.specs.declared.end.ServeEnd.TheVariants.{Done, StoppedBefore, Requested, AcceptFault, JournalFault, NoMemory}
 use Rattle.bsc_serve.specs.declared.parts.ServingParts.{ServingParts}
 use Rattle.bsc_serve.specs.declared.terms.ServeTerms.{ServeTerms}
+use Rattle.bsc_serve.specs.Asking.{AskedSo, Asking}
 use Rattle.bsc_serve.specs.Events.{begun_call}
 use Rattle.bsc_serve.specs.Serving.{Serving, StopAnswers}
 use Rattle.bsc_serve.specs.Terms.{Terms, all_terms}
@@ -42,6 +43,7 @@ use Rattle.bsc_hub_command.specs.Lines.{end_text, link_line}
 abbrev pub SaysEnd : ServeEnd → ℕ → Option (List ℕ) → Option (List ℕ) → Type 0
 SaysEnd (Done c u) s before after = SaysOrRunsOut s 0 before after (end_text u (Some c))
 SaysEnd (StoppedBefore at u) s before after = SaysOrRunsOut s 0 before after (end_text u None)
+SaysEnd (Requested c u) s before after = SaysOrRunsOut s 0 before after (end_text u c)
 SaysEnd AcceptFault s before after = EndsWith s 6 before after link_line
 SaysEnd JournalFault s before after = (s ≡ 4) × (after ≡ before)
 SaysEnd NoMemory s before after = RanOut s before after
@@ -57,8 +59,8 @@ terms_by v sessions = record { limits = session_limits v; turns = v.turns; sessi
 -- What there is outside the command at a moment, each as far as it is told: the links that the acceptor has left, those that
 -- came so far, the waits that it was asked for, its count of those in which none came, the port that it is bound to, and its count
 -- of faults; the jobs that the spawner has taken, what is left of those that it gave back, those of them that are out, and its
--- count of jobs that weren't started; the calls that began a journal, and the count of journals that couldn't be begun; and what
--- was written.
+-- count of jobs that weren't started; the calls that began a journal, and the count of journals that couldn't be begun; what was
+-- written; and what the asker tells of itself.
 pub record HubWorld (L C N : Type 0) : Type 0 where
   pub links : Option (List L)
   pub came : Option (List L)
@@ -73,6 +75,7 @@ pub record HubWorld (L C N : Type 0) : Type 0 where
   pub begun : Option (List BegunCall)
   pub unbegun : ℕ
   pub written : Option (List ℕ)
+  pub asking : Asking
 
 -- What an acceptor tells of itself, each as far as it tells it.
 pub record Door (L : Type 0) : Type 0 where
@@ -100,9 +103,9 @@ module _ {P L C N : Type 0} where
   stock_by jobs given_back out unstarted p = record { jobs = jobs p; given_back = given_back p; out = out p; unstarted = unstarted p }
 
 module _ {A C P J L N : Type 0} where
-  -- The same of the parts that a hub is served by, as these tell it, and of what was written.
-  abbrev pub world_by : (A → Door L) → (P → Stock L C N) → (J → Option (List BegunCall)) → (J → ℕ) → ServingParts A C P J → Option (List ℕ) → HubWorld L C N
-  world_by door stock begun unbegun parts written = record {
+  -- The same of the parts that a hub is served by, as these tell it, of what was written, and of the asker.
+  abbrev pub world_by : (A → Door L) → (P → Stock L C N) → (J → Option (List BegunCall)) → (J → ℕ) → ServingParts A C P J → Option (List ℕ) → Asking → HubWorld L C N
+  world_by door stock begun unbegun parts written asking = record {
     links = (door parts.acceptor).links;
     came = (door parts.acceptor).came;
     waits = (door parts.acceptor).waits;
@@ -116,6 +119,7 @@ module _ {A C P J L N : Type 0} where
     begun = begun parts.journals;
     unbegun = unbegun parts.journals;
     written = written;
+    asking = asking;
   }
 
 -- What the jobs of sessions, the journals and the links tell of themselves.
@@ -188,7 +192,7 @@ module _ {L C N : Type 0} where
     unstarted = w.unstarted;
   }
 
-  -- Nothing was asked of the acceptor and the spawner.
+  -- Nothing was asked of the acceptor, the spawner and the asker.
   pub record Untouched (before after : HubWorld L C N) : Type 0 where
     pub links : after.links ≡ before.links
     pub came : after.came ≡ before.came
@@ -200,6 +204,7 @@ module _ {L C N : Type 0} where
     pub given_back : after.given_back ≡ before.given_back
     pub out : after.out ≡ before.out
     pub unstarted : after.unstarted ≡ before.unstarted
+    pub asking : after.asking ≡ before.asking
 
   -- What is said where the own journal failed: the status is 4, and nothing is written; or there was no memory.
   abbrev pub SaysLost : HubWorld L C N → HubWorld L C N → Type 0 → ℕ → Type 0
@@ -214,8 +219,8 @@ module _ {L C N : Type 0} where
     pub stops : StopsAlone k
     pub says : SaysLost before after (HasRisen before.unbegun after.unbegun) s
 
-  -- The port wasn't bound: the acceptor's count of faults rose, it was asked for no link, no journal was begun, and the pass and
-  -- the spawner are as they were.
+  -- The port wasn't bound: the acceptor's count of faults rose, it was asked for no link, no journal was begun, and the pass, the
+  -- spawner and the asker are as they were.
   pub record NotBound (k : HubCourse) (before after : HubWorld L C N) (s : ℕ) : Type 0 where
     pub pass : k.last ≡ k.first
     pub links : Stays before.links after.links
@@ -226,6 +231,7 @@ module _ {L C N : Type 0} where
     pub out : after.out ≡ before.out
     pub unstarted : after.unstarted ≡ before.unstarted
     pub begun : after.begun ≡ before.begun
+    pub asking : after.asking ≡ before.asking
     pub failed : HasRisen before.faults after.faults
     pub says : EndsWith s 6 before.written after.written link_line
 
@@ -240,13 +246,16 @@ module _ {L C N : Type 0} (tells : HubTelling L C N) where
     pub says : SaysLost before after (HasRisen (tells.unput begun) (tells.unput own)) s
 
   -- The port of the settings was bound, the hub was served with their limits, turns and policy, and what is written tells how
-  -- that ended. Its own journal held the first line then, and what serving puts into it came behind that.
+  -- that ended. Its own journal held the first line then, and what serving puts into it came behind that. The end is that of a stop
+  -- that was asked for only where the asker asked; and the asker was told of the end once, when all was written.
   pub record Bound (k : HubCourse) (asked : HubTerms) (titled held' : Option (List ℕ)) (before after : HubWorld L C N) (s : ℕ) : Type 0 where
     pub end : ServeEnd
     pub bound : ToldIs after.port (Some asked.settings.port)
     pub serving : Serving tells.works tells.begins tells.talk (terms_of asked) (served_world k.hub titled (with_pass k.first before))
         (served_world k.hub held' (with_pass k.last after)) end
     pub says : SaysEnd end s before.written after.written
+    pub looks : AskedSo (own_list k.first) before.waits after.waits before.asking (record after.asking { endings = before.asking.endings }) end
+    pub told : Grows before.asking.endings after.asking.endings (after.written ∷ [])
 
   -- The own journal was begun as one sink and is another since. Its first line wasn't put; or it was, and then the port wasn't
   -- bound, or the hub was served.

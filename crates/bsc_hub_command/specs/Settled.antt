@@ -11,7 +11,7 @@ use Rattle.bsc_settings.specs.declared.settings.Settings.{Settings}
 use Rattle.bsc_settings.specs.Documents.{IsDocument}
 use Rattle.bsc_settings.specs.Faults.{fault_of}
 use Rattle.bsc_settings.specs.Fields.{IsSaidBy}
-use Rattle.bsc_settings.specs.Names.{name_of}
+use Rattle.bsc_settings.specs.Table.{name_of}
 use Rattle.bsc_hub_command.specs.Lines.{settings_line}
 
 -- The file has these octets, as far as that is told, and they are settings with these of a hub, and with this policy, if any.

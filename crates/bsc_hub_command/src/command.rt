@@ -1,5 +1,5 @@
 //! The command over a file of settings.
-ghost use Rattle.std.specs.Prelude.{◌≡◌, ◌≤◌, ◌⊎◌, Err, IfErr, IfOk, None, Option, Some, option_map};
+ghost use Rattle.std.specs.Prelude.{◌≡◌, ◌≤◌, ◌⊎◌, ℕ, Err, IfErr, IfOk, None, Option, Some, option_map};
 ghost use Rattle.bsc_edge.specs.declared.fault.FileFault.{FileFault};
 ghost use Rattle.bsc_edge.specs.Asked.{GaveFile, ReadsOnce};
 ghost use Rattle.bsc_outside.specs.Faults.{HasRisen};
@@ -7,6 +7,7 @@ ghost use Rattle.bsc_player.specs.Faults.{RisesIf};
 ghost use Rattle.bsc_player.specs.LastLines.{RanOut, SaysOrRunsOut};
 ghost use Rattle.bsc_policy.specs.declared.policy.Policy.{Policy as PolicyType};
 ghost use Rattle.bsc_session.specs.Jobs.{Worked, policy_of};
+ghost use Rattle.bsc_serve.specs.Asking.{asking_by};
 ghost use Rattle.bsc_settings.specs.declared.hub.HubSettings.{HubSettings as HubSettingsType};
 ghost use Rattle.bsc_hub_command.specs.Lines.{settings_line};
 ghost use Rattle.bsc_hub_command.specs.Served.{HasFailed, HubRuns, door_by, stock_by, telling, world_by};
@@ -22,7 +23,7 @@ use bsc_edge::{Acceptor, Clock, FileFault, Files, Journals, Link, Spawner};
 use bsc_octets::Octets;
 use bsc_outside::Sink;
 use bsc_player::{end_with, out_of_memory};
-use bsc_serve::ServingParts;
+use bsc_serve::{ServingParts, StopAsker};
 use bsc_session::SessionJob;
 use bsc_settings::{SettingFault, Settings, read_settings};
 use std::alloc::Global;
@@ -51,6 +52,51 @@ fn read_file<F: Files>(alloc: Global, files: &mut F, path: &str) -> Result<Octet
     files.load(alloc, path)
 }
 
+/// The octets of the file of settings, or the status of a run that ends without them.
+pub(crate) fn load_text<K: Sink, F: Files>(
+    alloc: Global,
+    path: &str,
+    files: &mut F,
+    sink: &mut K,
+) -> Result<Octets, u8>
+    ensures gave { IfOk result (λ o. GaveFile F.holds F.loads files.old files.new path.now o × (K.held sink.new ≡ K.held sink.old)) }
+    ensures unread { IfErr result (λ s. Unsettled (GaveFile F.holds F.loads files.old files.new path.now) (F.faults files.old) (F.faults files.new) s
+        (K.held sink.old) (K.held sink.new)) }
+    ensures once { ReadsOnce (F.loads files.old) (F.loads files.new) path.now }
+    ensures read { IfErr result (λ s. RisesIf s 3 (F.faults files.old) (F.faults files.new)) }
+    ensures write { IfErr result (λ s. RisesIf s 4 (K.faults sink.old) (K.faults sink.new)) }
+    ensures other { IfErr result (λ s. (s ≡ 3) ⊎ (s ≡ 4) ⊎ (s ≡ 7)) }
+    ensures writes_later { K.faults sink.old ≤ K.faults sink.new }
+{
+    match read_file(alloc, files, path) {
+        Ok(text) => Ok(text),
+        Err(FileFault::Failed) => Err(end_with(sink, b"fault read\n", 3)),
+        Err(FileFault::NoMemory) => Err(out_of_memory(sink)),
+    }
+}
+
+/// The settings of a hub and the policy in them that a text says, or the status of a run that ends without them.
+pub(crate) fn settle<K: Sink>(alloc: Global, text: &[u8], sink: &mut K) -> Result<HubSettled, u8>
+    ensures settled { IfOk result (λ v. IsSettled (λ o. o ≡ text.now) v.hub (policy_of v.policy) × (K.held sink.new ≡ K.held sink.old)) }
+    ensures unsettled { (f f' : ℕ) → IfErr result (λ s. Unsettled (λ o. o ≡ text.now) f f' s (K.held sink.old) (K.held sink.new)) }
+    ensures write { IfErr result (λ s. RisesIf s 4 (K.faults sink.old) (K.faults sink.new)) }
+    ensures other { IfErr result (λ s. (s ≡ 4) ⊎ (s ≡ 5) ⊎ (s ≡ 7)) }
+    ensures writes_later { K.faults sink.old ≤ K.faults sink.new }
+{
+    match read_settings(alloc, text) {
+        Ok(settings) => {
+            let Settings { hub, policy, .. } = settings;
+            match hub {
+                Some(hub) => Ok(HubSettled { hub, policy }),
+                None => Err(refuse(alloc, sink, "hub")),
+            }
+        }
+        Err(SettingFault::NotToml) => Err(refuse(alloc, sink, "-")),
+        Err(SettingFault::Key { name }) => Err(refuse(alloc, sink, name.text())),
+        Err(SettingFault::NoMemory) => Err(out_of_memory(sink)),
+    }
+}
+
 /// The settings of a hub and the policy in them, or the status of a run that ends without them.
 fn load<K: Sink, F: Files>(
     alloc: Global,
@@ -67,22 +113,9 @@ fn load<K: Sink, F: Files>(
     ensures other { IfErr result (λ s. (s ≡ 3) ⊎ (s ≡ 4) ⊎ (s ≡ 5) ⊎ (s ≡ 7)) }
     ensures writes_later { K.faults sink.old ≤ K.faults sink.new }
 {
-    let text = match read_file(alloc, files, path) {
-        Ok(text) => text,
-        Err(FileFault::Failed) => return Err(end_with(sink, b"fault read\n", 3)),
-        Err(FileFault::NoMemory) => return Err(out_of_memory(sink)),
-    };
-    match read_settings(alloc, text.as_slice()) {
-        Ok(settings) => {
-            let Settings { hub, policy, .. } = settings;
-            match hub {
-                Some(hub) => Ok(HubSettled { hub, policy }),
-                None => Err(refuse(alloc, sink, "hub")),
-            }
-        }
-        Err(SettingFault::NotToml) => Err(refuse(alloc, sink, "-")),
-        Err(SettingFault::Key { name }) => Err(refuse(alloc, sink, name.text())),
-        Err(SettingFault::NoMemory) => Err(out_of_memory(sink)),
+    match load_text(alloc, path, files, sink) {
+        Ok(text) => settle(alloc, text.as_slice(), sink),
+        Err(status) => Err(status),
     }
 }
 
@@ -97,6 +130,7 @@ pub fn run_hub<
     N: Sink + Drop,
     J: Journals<N>,
     P: Spawner<SessionJob<L, C, N>>,
+    Q: StopAsker,
 >(
     rt: &R,
     alloc: Global,
@@ -105,6 +139,7 @@ pub fn run_hub<
     place: &mut HubPlace<N>,
     sink: &mut K,
     parts: &mut ServingParts<A, C, P, J>,
+    asker: &mut Q,
 ) -> u8
     requires can { P.can_start parts.old.spawner }
     requires kept { place.old.kept.hub ≡ None }
@@ -119,15 +154,15 @@ pub fn run_hub<
         × HubRuns (telling (Worked L.talk L.faults L.notices C.readings N.held N.faults) J.begins L.talk N.held N.faults)
         (record { settings = v; policy = policy; sessions = words.entry.sessions; prefix = option_map (λ p. p.now) words.entry.journal })
         place.new
-        (world_by (door_by A.left A.came A.waits A.quiets A.bound A.faults) (stock_by P.jobs P.ends P.out P.faults) J.calls J.faults parts.old (K.held sink.old))
-        (world_by (door_by A.left A.came A.waits A.quiets A.bound A.faults) (stock_by P.jobs P.ends P.out P.faults) J.calls J.faults parts.new (K.held sink.new)) result }
+        (world_by (door_by A.left A.came A.waits A.quiets A.bound A.faults) (stock_by P.jobs P.ends P.out P.faults) J.calls J.faults parts.old (K.held sink.old) (asking_by Q.looks Q.asked Q.endings asker.old))
+        (world_by (door_by A.left A.came A.waits A.quiets A.bound A.faults) (stock_by P.jobs P.ends P.out P.faults) J.calls J.faults parts.new (K.held sink.new) (asking_by Q.looks Q.asked Q.endings asker.new)) result }
 
     // Where none is made, the file wasn't read, its settings were refused, or memory ran out; and nothing was touched but the
-    // files and the sink.
+    // files and the sink, the asker neither.
     ensures unmade { place.new.kept.hub ≡ None →
         Unsettled (GaveFile F.holds F.loads files.old files.new words.entry.path.now) (F.faults files.old) (F.faults files.new)
         result (K.held sink.old) (K.held sink.new) }
-    ensures untouched { place.new.kept.hub ≡ None → (place.new ≡ place.old) × (parts.new ≡ parts.old) }
+    ensures untouched { place.new.kept.hub ≡ None → (place.new ≡ place.old) × (parts.new ≡ parts.old) × (asker.new ≡ asker.old) }
     ensures read { RisesIf result 3 (F.faults files.old) (F.faults files.new) }
     ensures write { result ≡ 4 → HasRisen (K.faults sink.old) (K.faults sink.new)
         ⊎ HasRisen (J.faults parts.old.journals) (J.faults parts.new.journals) ⊎ HasFailed N.faults place.new.own }
@@ -147,6 +182,7 @@ pub fn run_hub<
             place,
             sink,
             parts,
+            asker,
         ),
         Err(status) => status,
     }

@@ -11,6 +11,7 @@ ghost use Rattle.bsc_player.specs.LastLines.{RanOut, SaysOrRunsOut};
 ghost use Rattle.bsc_settings.specs.Parts.{identity_of, limits_of};
 ghost use Rattle.bsc_session.specs.Jobs.{Worked};
 ghost use Rattle.bsc_serve.specs.declared.end.ServeEnd.{ServeEnd};
+ghost use Rattle.bsc_serve.specs.Asking.{asking_by};
 ghost use Rattle.bsc_journal.specs.Saying.{IsHubLine, IsIdentity};
 ghost use Rattle.bsc_hub_command.specs.HubLines.{hub_line, hub_text};
 ghost use Rattle.bsc_hub_command.specs.Lines.{end_text};
@@ -28,13 +29,13 @@ use bsc_hub::{Hub, Pass};
 use bsc_octets::NoMemory;
 use bsc_outside::Sink;
 use bsc_player::{end_with, out_of_memory};
-use bsc_serve::{ServeEnd, ServeTerms, ServedHub, ServingParts, serve_on};
+use bsc_serve::{ServeEnd, ServeTerms, ServedHub, ServingParts, StopAsker, serve_on};
 use bsc_session::{SessionJob, SessionLimits};
 use bsc_settings::HubSettings;
 use std::alloc::Global;
 use std::sync::{Arc, Wait};
 
-/// Writes what an end comes to that all sessions came to.
+/// Writes what an end comes to that all sessions came to, or that was asked for.
 fn tell_done<K: Sink>(alloc: Global, sink: &mut K, unstarted: u64, counts: Option<Counts>) -> u8
     ensures says { SaysOrRunsOut result 0 (K.held sink.old) (K.held sink.new) (end_text unstarted counts) }
     ensures failed { (result ≡ 0) ⊎ (result ≡ 7)
@@ -58,6 +59,7 @@ fn tell_end<K: Sink>(alloc: Global, sink: &mut K, end: ServeEnd) -> u8
     match end {
         ServeEnd::Done { counts, unstarted } => tell_done(alloc, sink, unstarted, Some(counts)),
         ServeEnd::StoppedBefore { unstarted, .. } => tell_done(alloc, sink, unstarted, None),
+        ServeEnd::Requested { counts, unstarted } => tell_done(alloc, sink, unstarted, counts),
         ServeEnd::AcceptFault => end_with(sink, b"fault link\n", 6),
         ServeEnd::JournalFault => 4,
         ServeEnd::NoMemory => out_of_memory(sink),
@@ -142,7 +144,7 @@ fn stop_alone<R: Wait>(rt: &R, hub: &Arc<Hub>, pass: &mut Pass)
     let _told = here.stop(rt, pass);
 }
 
-/// Binds the port, and serves the hub.
+/// Binds the port, and serves the hub. Once all is written of a hub that was served, the asker is told so.
 fn serve_hub<
     R: Wait,
     K: Sink,
@@ -152,6 +154,7 @@ fn serve_hub<
     N: Sink + Drop,
     J: Journals<N>,
     P: Spawner<SessionJob<L, C, N>>,
+    Q: StopAsker,
 >(
     made: MadeHub<'_, R>,
     asked: HubAsked<'_>,
@@ -159,19 +162,20 @@ fn serve_hub<
     own: &mut N,
     sink: &mut K,
     parts: &mut ServingParts<A, C, P, J>,
+    asker: &mut Q,
 ) -> u8
     requires can { P.can_start parts.old.spawner }
     requires pass { IsCaller (arc_value made.hub.now) pass.old }
     ensures went { (NotBound (record { hub = arc_value made.entry.hub.now; first = pass.old; last = pass.new })
-        (world_by (door_by A.left A.came A.waits A.quiets A.bound A.faults) (stock_by P.jobs P.ends P.out P.faults) J.calls J.faults parts.old (K.held sink.old))
-        (world_by (door_by A.left A.came A.waits A.quiets A.bound A.faults) (stock_by P.jobs P.ends P.out P.faults) J.calls J.faults parts.new (K.held sink.new)) result
+        (world_by (door_by A.left A.came A.waits A.quiets A.bound A.faults) (stock_by P.jobs P.ends P.out P.faults) J.calls J.faults parts.old (K.held sink.old) (asking_by Q.looks Q.asked Q.endings asker.old))
+        (world_by (door_by A.left A.came A.waits A.quiets A.bound A.faults) (stock_by P.jobs P.ends P.out P.faults) J.calls J.faults parts.new (K.held sink.new) (asking_by Q.looks Q.asked Q.endings asker.new)) result
         × (N.held own.new ≡ N.held own.old))
         ⊎ Bound (telling (Worked L.talk L.faults L.notices C.readings N.held N.faults) J.begins L.talk N.held N.faults)
         (record { hub = arc_value made.entry.hub.now; first = pass.old; last = pass.new })
         (terms_in asked.entry)
         (N.held own.old) (N.held own.new)
-        (world_by (door_by A.left A.came A.waits A.quiets A.bound A.faults) (stock_by P.jobs P.ends P.out P.faults) J.calls J.faults parts.old (K.held sink.old))
-        (world_by (door_by A.left A.came A.waits A.quiets A.bound A.faults) (stock_by P.jobs P.ends P.out P.faults) J.calls J.faults parts.new (K.held sink.new)) result }
+        (world_by (door_by A.left A.came A.waits A.quiets A.bound A.faults) (stock_by P.jobs P.ends P.out P.faults) J.calls J.faults parts.old (K.held sink.old) (asking_by Q.looks Q.asked Q.endings asker.old))
+        (world_by (door_by A.left A.came A.waits A.quiets A.bound A.faults) (stock_by P.jobs P.ends P.out P.faults) J.calls J.faults parts.new (K.held sink.new) (asking_by Q.looks Q.asked Q.endings asker.new)) result }
     ensures write { result ≡ 4 → HasRisen (K.faults sink.old) (K.faults sink.new)
         ⊎ HasRisen (J.faults parts.old.journals) (J.faults parts.new.journals)
         ⊎ HasRisen (N.faults own.old) (N.faults own.new) }
@@ -195,8 +199,10 @@ fn serve_hub<
                 prefix: asked.prefix,
                 policy: asked.policy,
             };
-            let end = serve_on(served, pass, own, parts);
-            tell_end(made.alloc, sink, end)
+            let end = serve_on(served, pass, own, parts, asker);
+            let status = tell_end(made.alloc, sink, end);
+            asker.end(&*sink);
+            status
         }
     }
 }
@@ -211,6 +217,7 @@ fn serve_titled<
     N: Sink + Drop,
     J: Journals<N>,
     P: Spawner<SessionJob<L, C, N>>,
+    Q: StopAsker,
 >(
     made: MadeHub<'_, R>,
     asked: HubAsked<'_>,
@@ -218,6 +225,7 @@ fn serve_titled<
     own: &mut N,
     sink: &mut K,
     parts: &mut ServingParts<A, C, P, J>,
+    asker: &mut Q,
 ) -> u8
     requires can { P.can_start parts.old.spawner }
     requires pass { IsCaller (arc_value made.hub.now) pass.old }
@@ -227,8 +235,8 @@ fn serve_titled<
         (record { hub = arc_value made.entry.hub.now; first = pass.old; last = pass.new })
         (terms_in asked.entry)
         own.old own.new
-        (world_by (door_by A.left A.came A.waits A.quiets A.bound A.faults) (stock_by P.jobs P.ends P.out P.faults) J.calls J.faults parts.old (K.held sink.old))
-        (world_by (door_by A.left A.came A.waits A.quiets A.bound A.faults) (stock_by P.jobs P.ends P.out P.faults) J.calls J.faults parts.new (K.held sink.new)) result }
+        (world_by (door_by A.left A.came A.waits A.quiets A.bound A.faults) (stock_by P.jobs P.ends P.out P.faults) J.calls J.faults parts.old (K.held sink.old) (asking_by Q.looks Q.asked Q.endings asker.old))
+        (world_by (door_by A.left A.came A.waits A.quiets A.bound A.faults) (stock_by P.jobs P.ends P.out P.faults) J.calls J.faults parts.new (K.held sink.new) (asking_by Q.looks Q.asked Q.endings asker.new)) result }
     ensures write { result ≡ 4 → HasRisen (K.faults sink.old) (K.faults sink.new)
         ⊎ HasRisen (J.faults parts.old.journals) (J.faults parts.new.journals)
         ⊎ HasRisen (N.faults own.old) (N.faults own.new) }
@@ -240,7 +248,7 @@ fn serve_titled<
     ensures own_later { N.faults own.old ≤ N.faults own.new }
 {
     match put_title(made.alloc, own, about_by(asked.settings)) {
-        Ok(()) => serve_hub(made, asked, pass, own, sink, parts),
+        Ok(()) => serve_hub(made, asked, pass, own, sink, parts, asker),
         Err(fault) => {
             stop_alone(made.rt, made.hub, pass);
             tell_lost(sink, fault)
@@ -258,6 +266,7 @@ fn serve_begun<
     N: Sink + Drop,
     J: Journals<N>,
     P: Spawner<SessionJob<L, C, N>>,
+    Q: StopAsker,
 >(
     made: MadeHub<'_, R>,
     asked: HubAsked<'_>,
@@ -265,6 +274,7 @@ fn serve_begun<
     own: &mut Option<N>,
     sink: &mut K,
     parts: &mut ServingParts<A, C, P, J>,
+    asker: &mut Q,
 ) -> u8
     requires can { P.can_start parts.old.spawner }
     requires pass { IsCaller (arc_value made.hub.now) pass.old }
@@ -272,14 +282,14 @@ fn serve_begun<
         ≡ record { hub = identity_of asked.settings.now; limits = limits_of asked.settings.now } }
     requires own { own.old ≡ None }
     ensures went { Unbegun (record { hub = arc_value made.entry.hub.now; first = pass.old; last = pass.new }) (terms_in asked.entry) own.new
-        (world_by (door_by A.left A.came A.waits A.quiets A.bound A.faults) (stock_by P.jobs P.ends P.out P.faults) J.calls J.faults parts.old (K.held sink.old))
-        (world_by (door_by A.left A.came A.waits A.quiets A.bound A.faults) (stock_by P.jobs P.ends P.out P.faults) J.calls J.faults parts.new (K.held sink.new)) result
+        (world_by (door_by A.left A.came A.waits A.quiets A.bound A.faults) (stock_by P.jobs P.ends P.out P.faults) J.calls J.faults parts.old (K.held sink.old) (asking_by Q.looks Q.asked Q.endings asker.old))
+        (world_by (door_by A.left A.came A.waits A.quiets A.bound A.faults) (stock_by P.jobs P.ends P.out P.faults) J.calls J.faults parts.new (K.held sink.new) (asking_by Q.looks Q.asked Q.endings asker.new)) result
         ⊎ Begun (telling (Worked L.talk L.faults L.notices C.readings N.held N.faults) J.begins L.talk N.held N.faults)
         (record { hub = arc_value made.entry.hub.now; first = pass.old; last = pass.new })
         (terms_in asked.entry)
         own.new
-        (world_by (door_by A.left A.came A.waits A.quiets A.bound A.faults) (stock_by P.jobs P.ends P.out P.faults) J.calls J.faults parts.old (K.held sink.old))
-        (world_by (door_by A.left A.came A.waits A.quiets A.bound A.faults) (stock_by P.jobs P.ends P.out P.faults) J.calls J.faults parts.new (K.held sink.new)) result }
+        (world_by (door_by A.left A.came A.waits A.quiets A.bound A.faults) (stock_by P.jobs P.ends P.out P.faults) J.calls J.faults parts.old (K.held sink.old) (asking_by Q.looks Q.asked Q.endings asker.old))
+        (world_by (door_by A.left A.came A.waits A.quiets A.bound A.faults) (stock_by P.jobs P.ends P.out P.faults) J.calls J.faults parts.new (K.held sink.new) (asking_by Q.looks Q.asked Q.endings asker.new)) result }
     ensures write { result ≡ 4 → HasRisen (K.faults sink.old) (K.faults sink.new)
         ⊎ HasRisen (J.faults parts.old.journals) (J.faults parts.new.journals) ⊎ HasFailed N.faults own.new }
     ensures link { RisesIf result 6 (A.faults parts.old.acceptor) (A.faults parts.new.acceptor) }
@@ -292,7 +302,7 @@ fn serve_begun<
     match parts.journals.begin(alloc, asked.prefix, pass.number()) {
         Ok(begun) => {
             let mut begun = begun;
-            let status = serve_titled(made, asked, pass, &mut begun, sink, parts);
+            let status = serve_titled(made, asked, pass, &mut begun, sink, parts, asker);
             *own = Some(begun);
             status
         }
@@ -304,8 +314,8 @@ fn serve_begun<
 }
 
 /// Makes the hub of the settings, puts it and its first pass into the place, begins the journal of that pass and puts it
-/// there too, binds the port, serves the hub, and writes what it comes to. Where the own journal fails, the hub is stopped,
-/// and the status is 4.
+/// there too, binds the port, serves the hub until its sessions have ended or the stop is asked for, and writes what it comes to;
+/// then the asker is told of the end. Where the own journal fails, the hub is stopped, and the status is 4.
 pub fn serve<
     R: Wait,
     K: Sink,
@@ -315,6 +325,7 @@ pub fn serve<
     N: Sink + Drop,
     J: Journals<N>,
     P: Spawner<SessionJob<L, C, N>>,
+    Q: StopAsker,
 >(
     rt: &R,
     alloc: Global,
@@ -322,6 +333,7 @@ pub fn serve<
     place: &mut HubPlace<N>,
     sink: &mut K,
     parts: &mut ServingParts<A, C, P, J>,
+    asker: &mut Q,
 ) -> u8
     requires can { P.can_start parts.old.spawner }
     requires kept { place.old.kept.hub ≡ None }
@@ -331,12 +343,12 @@ pub fn serve<
     ensures runs { (hub : _) → place.new.kept.hub ≡ Some hub →
         HubRuns (telling (Worked L.talk L.faults L.notices C.readings N.held N.faults) J.begins L.talk N.held N.faults)
         (terms_in asked.entry) place.new
-        (world_by (door_by A.left A.came A.waits A.quiets A.bound A.faults) (stock_by P.jobs P.ends P.out P.faults) J.calls J.faults parts.old (K.held sink.old))
-        (world_by (door_by A.left A.came A.waits A.quiets A.bound A.faults) (stock_by P.jobs P.ends P.out P.faults) J.calls J.faults parts.new (K.held sink.new)) result }
+        (world_by (door_by A.left A.came A.waits A.quiets A.bound A.faults) (stock_by P.jobs P.ends P.out P.faults) J.calls J.faults parts.old (K.held sink.old) (asking_by Q.looks Q.asked Q.endings asker.old))
+        (world_by (door_by A.left A.came A.waits A.quiets A.bound A.faults) (stock_by P.jobs P.ends P.out P.faults) J.calls J.faults parts.new (K.held sink.new) (asking_by Q.looks Q.asked Q.endings asker.new)) result }
 
     // Where none is made there was no memory, and nothing was touched but the sink.
     ensures unmade { place.new.kept.hub ≡ None → RanOut result (K.held sink.old) (K.held sink.new) }
-    ensures untouched { place.new.kept.hub ≡ None → (place.new ≡ place.old) × (parts.new ≡ parts.old) }
+    ensures untouched { place.new.kept.hub ≡ None → (place.new ≡ place.old) × (parts.new ≡ parts.old) × (asker.new ≡ asker.old) }
 
     // A failed write is told only where the count of the sink or of the journals rose, or where the own journal has failed.
     ensures write { result ≡ 4 → HasRisen (K.faults sink.old) (K.faults sink.new)
@@ -362,6 +374,7 @@ pub fn serve<
         &mut place.own,
         sink,
         parts,
+        asker,
     );
     place.kept.hub = Some(hub);
     place.kept.pass = Some(pass);

@@ -20,7 +20,7 @@ fn put_unstarted(text: &mut Vec<u8>, alloc: Global, unstarted: u64) -> Result<()
     Ok(())
 }
 
-/// What is written of an end that all sessions came to.
+/// What is written of an end that all sessions came to, or that was asked for.
 pub(crate) fn done_text(
     alloc: Global,
     unstarted: u64,

@@ -1,4 +1,5 @@
 -- Leaves, read a word at a time.
+-- It serves the clauses of `read_leave` and `read_words`.
 use Rattle.std.proofs.Common.{◌≡◌, ℕ, List, [], ◌∷◌, Option, Some, None, refl, ap, ◌∙◌}
 use Rattle.std.specs.Option.{option_map}
 use Rattle.bsc_history.specs.declared.call.Call.TheVariants.{Leave}
@@ -35,7 +36,8 @@ leave_second (w ∷ x ∷ y ∷ ws) conn r e f =
     let none = no_number (number_of x) (y ∷ ws) (ap number_in a.1 ∙ f) in
     ap (λ (o : Option ℕ). leave_of ws (number_of w) o (number_of y)) none ∙ leave_without ws (number_of w) (number_of y)
 
-pub leave_third : (ws : List (List ℕ)) (conn : ℕ) (r : List (List ℕ)) (taken : ℕ) (s : List (List ℕ)) → number_in ws ≡ Some (read conn r) → number_in r ≡ Some (read taken s) → number_in s ≡ None → leave_in ws ≡ None
+pub leave_third : (ws : List (List ℕ)) (conn : ℕ) (r : List (List ℕ)) (taken : ℕ) (s : List (List ℕ)) → number_in ws ≡ Some (read conn r) → number_in r ≡ Some (read taken s)
+    → number_in s ≡ None → leave_in ws ≡ None
 leave_third [] conn r taken s e f g = refl
 leave_third (w ∷ []) conn r taken s e f g = refl
 leave_third (w ∷ x ∷ []) conn r taken s e f g = refl

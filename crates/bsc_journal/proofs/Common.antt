@@ -1,4 +1,5 @@
 -- Lemmas that crates above cite too.
+-- It serves bsc_audit.
 use Rattle.bsc_history.specs.declared.entry.Entry.{Entry}
 use Rattle.bsc_journal.specs.Journals.{lines_from}
 use Rattle.std.proofs.Common.{◌∷◌, ◌≡◌, ◌+◌, refl, length, [], List, suc, ap, ℕ}

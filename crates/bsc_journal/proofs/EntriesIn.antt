@@ -1,4 +1,5 @@
 -- An entry, read a word at a time.
+-- It serves the clauses of `read_words`.
 use Rattle.std.proofs.Common.{◌≡◌, ℕ, List, [], ◌∷◌, Option, Some, None, refl, ap, ◌∙◌}
 use Rattle.bsc_history.specs.declared.call.Call.{Call}
 use Rattle.bsc_history.specs.declared.looks.Look.{Look}

@@ -1,4 +1,5 @@
 -- A hub line begins with `hub`, but for spaces.
+-- It serves bsc_audit, bsc_audit_laws and bsc_journal_laws.
 use Rattle.std.proofs.Common.{◌≡◌, ◌≢◌, ℕ, Bool, true, false, cond, List, [], ◌∷◌, codes, Option, Some, None, refl, ap, sym, ◌∙◌}
 use Rattle.std.specs.Option.{option_map}
 use Rattle.std.specs.Cmp.Lexicographic.{same_text}
@@ -9,7 +10,8 @@ use Rattle.bsc_text.specs.Lines.{in_front, same_octets}
 use Rattle.bsc_text.specs.Words.{begins_comment, goes_on, words_of}
 use Rattle.bsc_script.specs.declared.line.Line.{Line}
 use Rattle.bsc_script.specs.declared.line.Line.TheVariants.{Nothing, Hub, Open, Text, Drop, Hold, Free, At, Stop, Counts}
-use Rattle.bsc_script.specs.Lines.{at_line_of_words, bare_line_of_words, hub_line_of_words, hubs_line_of_words, in_line, in_line_of_words, line_of, line_of_words, name_line_of_words, open_line_of_words, other_line_of_words}
+use Rattle.bsc_script.specs.Lines.{at_line_of_words, bare_line_of_words, hub_line_of_words, hubs_line_of_words, in_line, in_line_of_words, line_of, line_of_words}
+use Rattle.bsc_script.specs.Lines.{name_line_of_words, open_line_of_words, other_line_of_words}
 
 -- whether a line is that of a hub
 abbrev is_hub_line : Option Line → Bool

@@ -1,5 +1,7 @@
 -- The loose words of a line, one after another: a word, a number, octets, numbers with commas between.
-use Rattle.std.proofs.Common.{◌≡◌, ℕ, ◌/◌, ◌%◌, ◌<◌, ◌==◌, Bool, true, false, not, ◌||◌, cond, List, [], ◌∷◌, ◌++◌, length, map, flat_map, slice_index, codes, decimal, refl, ap, sym, ◌∙◌, append_assoc, append-nil, arith, nat_lt}
+-- It serves many crates above.
+use Rattle.std.proofs.Common.{◌≡◌, ℕ, ◌/◌, ◌%◌, ◌<◌, ◌==◌, Bool, true, false, not, ◌||◌, cond, List, [], ◌∷◌, ◌++◌, length, map, flat_map, slice_index, codes, decimal, refl, ap}
+use Rattle.std.proofs.Common.{sym, ◌∙◌, append_assoc, append-nil, arith, nat_lt}
 use Rattle.std.specs.List.{list_all}
 use Rattle.std.proofs.lemmas.Bool.{agree_below_at, and_from, and_parts, both_ways, ltb-true, ne_eqb, not-true, or_left}
 use Rattle.hex.specs.Hex.{encode_upper, encode_with, upper_digits}

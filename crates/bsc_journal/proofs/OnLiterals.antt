@@ -1,4 +1,5 @@
 -- What an answer unfolds to compute this crate's definitions on literal journals.
+-- It serves bsc_audit and bsc_journal_laws.
 use Rattle.std.specs.Prelude.{⊤}
 use Rattle.std.specs.List.{IsDistinct}
 use Rattle.bsc_lines.specs.Lines.{entry_line}

@@ -1,4 +1,5 @@
 -- The entry of a line is read back from it, so a line has one entry.
+-- It serves bsc_audit, bsc_audit_laws and bsc_journal_laws.
 use Rattle.std.proofs.Common.{◌≡◌, ℕ, List, ◌∷◌, ◌++◌, codes, decimal, Option, Some, None, refl, ap, sym, ◌∙◌}
 use Rattle.bsc_history.specs.declared.entry.Entry.{Entry}
 use Rattle.bsc_history.specs.declared.reply.Reply.{Reply}

@@ -1,4 +1,5 @@
 -- A reply is read back from its text, at the end of a line.
+-- It serves bsc_audit, bsc_audit_laws and bsc_journal_laws.
 use Rattle.std.proofs.Common.{◌≡◌, ℕ, Bool, true, ◌&&◌, cond, List, [], ◌∷◌, ◌++◌, map, codes, decimal, Option, Some, None, refl, ap, sym, ◌∙◌, append-nil, append_assoc}
 use Rattle.std.specs.Option.{option_map}
 use Rattle.std.proofs.lemmas.Bool.{and_parts}

@@ -1,4 +1,5 @@
 -- A line of a journal says one thing.
+-- It serves bsc_audit, bsc_audit_laws and bsc_journal_laws.
 use Rattle.std.proofs.Common.{◌≡◌, ◌≢◌, ◌<◌, ◌+◌, ℕ, ◌==◌, nat_eq, Bool, true, false, List, [], ◌∷◌, ◌++◌, length, take, codes, decimal, Option, Some, refl, ap, sym, ◌∙◌, arith}
 use Rattle.std.specs.List.{list_all}
 use Rattle.std.specs.Cmp.Lexicographic.{pointwise}
@@ -10,8 +11,8 @@ use Rattle.bsc_text.specs.Lines.{line_in}
 use Rattle.bsc_script.specs.declared.line.Line.{Line}
 use Rattle.bsc_script.specs.declared.line.Line.TheVariants.{Hub as HubLine}
 use Rattle.bsc_script.specs.Lines.{line_of}
-use Rattle.bsc_journal.specs.declared.said.Said.{Said}
-use Rattle.bsc_journal.specs.declared.said.Said.TheVariants.{Hub, Entry as AnEntry, Denial}
+use Rattle.bsc_journal.specs.declared.journal_record.JournalRecord.{JournalRecord}
+use Rattle.bsc_journal.specs.declared.journal_record.JournalRecord.TheVariants.{Hub, Entry as AnEntry, Denial}
 use Rattle.bsc_lines.specs.Lines.{call_text, entry_line, reply_text, then_number}
 use Rattle.bsc_journal.specs.Saying.{IsHubLine, IsLineOf, Says, is_denial}
 use Rattle.bsc_journal.specs.Good.{SayAll}
@@ -77,7 +78,7 @@ hub_in about (Some (HubLine other)) = other
 hub_in about line = about
 
 -- A line says one thing.
-pub says_one : (l : List ℕ) (s t : Said) → Says l s → Says l t → s ≡ t
+pub says_one : (l : List ℕ) (s t : JournalRecord) → Says l s → Says l t → s ≡ t
 unfolding hub_in
 says_one l (Hub a) (Hub b) h k = ap (λ (o : Option Line). Hub (hub_in a o)) (sym h.line ∙ k.line)
 says_one l (Hub a) (AnEntry q f) h k = absurd (hub_no_entry l a q f h k)
@@ -90,7 +91,7 @@ says_one l Denial (AnEntry q f) h k = absurd (entry_no_denial l q f k h)
 says_one l Denial Denial h k = refl
 
 -- Good pieces say one list of things.
-pub say_once : (before : ℕ) (pieces : List (List ℕ)) (s t : List Said) → SayAll before pieces s → SayAll before pieces t → s ≡ t
+pub say_once : (before : ℕ) (pieces : List (List ℕ)) (s t : List JournalRecord) → SayAll before pieces s → SayAll before pieces t → s ≡ t
 say_once before [] [] [] h k = refl
 say_once before [] [] (y ∷ t) h k = absurd k
 say_once before [] (x ∷ s) t h k = absurd h

@@ -1,4 +1,5 @@
 -- What has a line, by its tests.
+-- It serves the clauses of `are_octets`.
 use Rattle.std.proofs.Common.{◌≡◌, ℕ, suc, true, ◌&&◌, List, [], ◌∷◌, refl}
 use Rattle.std.specs.Prelude.{IsTrue}
 use Rattle.std.specs.List.{list_all}

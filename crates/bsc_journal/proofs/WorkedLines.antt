@@ -1,4 +1,5 @@
 -- Lines of every kind of entry, worked by hand, and what has no line.
+-- No clause needs it: worked examples.
 use Rattle.std.proofs.Common.{◌≡◌, ◌<◌, [], ◌∷◌, codes, Some, None, true, false, refl, arith}
 use Rattle.uuid.proofs.OnLiterals.{uuid_on_literals}
 use Rattle.bsc_script.proofs.OnLiterals.{script_on_literals}

@@ -1,4 +1,5 @@
 -- What the worked journals are made of: peers, a hub, entries and lines.
+-- It serves bsc_audit, bsc_journal_laws and bsc_witnesses.
 use Rattle.std.specs.Prelude.{◌≡◌, ℕ, List, [], ◌∷◌, ◌++◌, map, flat_map, replicate, codes, None, IsTrue}
 use Rattle.std.specs.List.{list_all}
 use Rattle.bsc_octets.specs.declared.identity.Identity.{Identity}

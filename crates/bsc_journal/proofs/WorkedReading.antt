@@ -1,4 +1,5 @@
 -- Lines of every kind of entry, read back.
+-- No clause needs it: worked examples.
 use Rattle.std.proofs.Common.{◌≡◌, ℕ, [], ◌∷◌, codes, Option, Some, None, refl}
 use Rattle.hex.specs.Hex.{decode_pairs}
 use Rattle.bsc_history.specs.declared.call.Call.TheVariants.{Connect, Forward, Leave, Stop, Count}

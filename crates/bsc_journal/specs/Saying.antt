@@ -15,8 +15,8 @@ use Rattle.bsc_history.specs.declared.reply.Reply.TheVariants.{Joined, Refused, 
 use Rattle.bsc_text.specs.Words.{words_of}
 use Rattle.bsc_script.specs.declared.line.Line.TheVariants.{Hub as HubLine}
 use Rattle.bsc_script.specs.Lines.{line_of}
-use Rattle.bsc_journal.specs.declared.said.Said.{Said}
-use Rattle.bsc_journal.specs.declared.said.Said.TheVariants.{Hub, Entry as AnEntry, Denial}
+use Rattle.bsc_journal.specs.declared.journal_record.JournalRecord.{JournalRecord}
+use Rattle.bsc_journal.specs.declared.journal_record.JournalRecord.TheVariants.{Hub, Entry as AnEntry, Denial}
 use Rattle.bsc_lines.specs.Lines.{entry_line}
 
 -- ---- which entries have a line
@@ -115,7 +115,7 @@ abbrev pub is_denial : List ℕ → Bool
 is_denial l = starts_with nat_eq l (codes "deny")
 
 -- What a line says: a hub, an entry at its place, or something denied, which is passed over.
-abbrev pub Says : List ℕ → Said → Type 0
+abbrev pub Says : List ℕ → JournalRecord → Type 0
 Says l (Hub about) = IsHubLine l about
 Says l (AnEntry place e) = IsLineOf l place e
 Says l Denial = IsTrue (is_denial l)

@@ -8,16 +8,16 @@
 mod bounds;
 mod finding;
 mod having;
+mod journal_record;
 mod laws;
 mod read_calls;
 mod read_replies;
 mod reading;
-mod said;
 mod saying;
 
 pub use bounds::{MOST_IN_ALL, MOST_IN_LINE};
 pub use bsc_lines::entry_line;
 pub use finding::read_entry;
+pub use journal_record::JournalRecord;
 pub use laws::journals_have_2_to_the_28_octets;
-pub use said::Said;
 pub use saying::read_said;

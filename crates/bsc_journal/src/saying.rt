@@ -2,11 +2,11 @@
 ghost use Rattle.std.specs.Prelude.{◌≡◌, ◌==◌, length, IfOk, IfSome, Some, None, Ok};
 ghost use Rattle.bsc_history.specs.declared.limits.About.{About as AboutOf};
 ghost use Rattle.bsc_text.specs.Words.{words_of};
-ghost use Rattle.bsc_journal.specs.declared.said.Said.{Said as SaidOf};
+ghost use Rattle.bsc_journal.specs.declared.journal_record.JournalRecord.{JournalRecord as SaidOf};
 ghost use Rattle.bsc_journal.specs.Saying.{IsHubLine, Says, is_denial};
 
 use crate::finding::read_entry;
-use crate::said::Said;
+use crate::journal_record::JournalRecord;
 use bsc_history::About;
 use bsc_octets::NoMemory;
 use bsc_player::LineFault;
@@ -57,18 +57,18 @@ fn hub_of(alloc: Global, line: &[u8]) -> Result<Option<About>, NoMemory>
 }
 
 /// What a line of a journal says, or that it says nothing. Memory may run out.
-pub fn read_said(alloc: Global, line: &[u8]) -> Result<Option<Said>, NoMemory>
+pub fn read_said(alloc: Global, line: &[u8]) -> Result<Option<JournalRecord>, NoMemory>
     ensures says { IfOk result (λ o. IfSome o (λ s. Says line.now s)) }
     ensures none { result ≡ Ok None → (s : SaidOf) → Says line.now s → ⊥ }
 {
     if is_denial(line) {
-        return Ok(Some(Said::Denial));
+        return Ok(Some(JournalRecord::Denial));
     }
     if let Some(about) = hub_of(alloc, line)? {
-        return Ok(Some(Said::Hub(about)));
+        return Ok(Some(JournalRecord::Hub(about)));
     }
     match read_entry(alloc, line)? {
-        Some((place, entry)) => Ok(Some(Said::Entry { place, entry })),
+        Some((place, entry)) => Ok(Some(JournalRecord::Entry { place, entry })),
         None => Ok(None),
     }
 }

@@ -1,5 +1,7 @@
 -- The journals of a hub that was served may be believed.
-use Rattle.std.proofs.Common.{⊎_elim, ◌≡◌, ◌≢◌, ℕ, zero, suc, ◌+◌, ◌^◌, ◌==◌, ◌≤◌, ◌||◌, Bool, true, false, List, [], ◌∷◌, ◌++◌, length, map, slice_get, Option, Some, None, Result, Ok, Err, refl, ap, sym, ◌∙◌, subst, arith, append_assoc}
+-- It serves the clauses of `run_audits`.
+use Rattle.std.proofs.Common.{⊎_elim, ◌≡◌, ◌≢◌, ℕ, zero, suc, ◌+◌, ◌^◌, ◌==◌, ◌≤◌, ◌||◌, Bool, true, false, List, [], ◌∷◌, ◌++◌, length, map, slice_get, Option, Some, None, Result}
+use Rattle.std.proofs.Common.{Ok, Err, refl, ap, sym, ◌∙◌, subst, arith, append_assoc}
 use Rattle.std.specs.List.{AllByRecursion}
 use Rattle.std.specs.List.Sorted.{IsPermutation}
 use Rattle.std.proofs.lemmas.Bool.{eq-eqb}
@@ -14,9 +16,9 @@ use Rattle.bsc_history.specs.Marks.{entries}
 use Rattle.bsc_edge.specs.declared.notice.Notice.{Notice}
 use Rattle.bsc_edge.specs.declared.said.Said.{Said}
 use Rattle.bsc_desk.specs.Entries.{stop_entry}
-use Rattle.bsc_notes.specs.Notes.{Note, Records, lines_of as octets_of, made}
+use Rattle.bsc_session.specs.Notes.Notes.{Note, Records, lines_of as octets_of, made}
 use Rattle.bsc_turn.specs.declared.pass.Pass.{Pass}
-use Rattle.bsc_turn.specs.declared.view.Ended.{Ended as EndedCaller}
+use Rattle.bsc_turn.specs.declared.view.EndedCaller.{EndedCaller}
 use Rattle.bsc_turn.specs.Callers.{has}
 use Rattle.bsc_turn.specs.Passes.{number_of, own_list, seen}
 use Rattle.bsc_hub.specs.declared.hub.Hub.{Hub}
@@ -69,12 +71,14 @@ has_mine n ns = ap (λ (b : Bool). b || has ns n) (eq-eqb n n refl)
 has_behind : (m n : ℕ) (ns : List ℕ) → has ns n ≡ true → has (m ∷ ns) n ≡ true
 has_behind m n ns h = ap (λ (b : Bool). (m == n) || b) h ∙ or_right (m == n)
 
-job_has : {L C N : Type 0} (jobs : List (SessionJob L C N)) (k : ℕ) (j : SessionJob L C N) (n : ℕ) → slice_get jobs k ≡ Some j → number_of j.pass ≡ n → has (map (λ (x : SessionJob L C N). number_of x.pass) jobs) n ≡ true
+job_has : {L C N : Type 0} (jobs : List (SessionJob L C N)) (k : ℕ) (j : SessionJob L C N) (n : ℕ) → slice_get jobs k ≡ Some j → number_of j.pass ≡ n
+    → has (map (λ (x : SessionJob L C N). number_of x.pass) jobs) n ≡ true
 job_has [] k j n at is = cc
 job_has {L} {C} {N} (x ∷ jobs) zero j n at is =
     let same : x ≡ j = first_is x j at in
     let first : number_of x.pass ≡ n = ap (λ (y : SessionJob L C N). number_of y.pass) same ∙ is in
-    subst (λ (m : ℕ). has (number_of x.pass ∷ map (λ (y : SessionJob L C N). number_of y.pass) jobs) m ≡ true) first (has_mine (number_of x.pass) (map (λ (y : SessionJob L C N). number_of y.pass) jobs))
+    subst (λ (m : ℕ). has (number_of x.pass ∷ map (λ (y : SessionJob L C N). number_of y.pass) jobs) m ≡ true) first
+    (has_mine (number_of x.pass) (map (λ (y : SessionJob L C N). number_of y.pass) jobs))
   where
     first_is : (a b : SessionJob L C N) → Some a ≡ Some b → a ≡ b
     first_is a b h = cc

@@ -1,5 +1,7 @@
 -- How large the numbers of a legal history are, by how many entries it has.
-use Rattle.std.proofs.Common.{◌≡◌, inl, inr, ℕ, ◌+◌, ◌*◌, ◌≤◌, ◌^◌, ◌==◌, Bool, true, false, not, ◌&&◌, ◌||◌, cond, nat_le, List, [], ◌∷◌, ◌++◌, length, filter, map, Option, Some, None, is_none, MatchOption, option_to_list, refl, ap, sym, subst, arith, length-append}
+-- It serves the clauses of `legal_has_lines` and `run_audits`.
+use Rattle.std.proofs.Common.{◌≡◌, inl, inr, ℕ, ◌+◌, ◌*◌, ◌≤◌, ◌^◌, ◌==◌, Bool, true, false, not, ◌&&◌, ◌||◌, cond, nat_le, List, [], ◌∷◌, ◌++◌, length, filter, map, Option, Some}
+use Rattle.std.proofs.Common.{None, is_none, MatchOption, option_to_list, refl, ap, sym, subst, arith, length-append}
 use Rattle.std.specs.Prelude.{⊤}
 use Rattle.std.specs.List.{AllByRecursion, list_all, list_any}
 use Rattle.std.proofs.lemmas.Bool.{and_from, and_parts, both_ways, cases_lt, leb-true}

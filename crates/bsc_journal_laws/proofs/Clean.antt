@@ -1,4 +1,5 @@
 -- The lines of entries and of denials have no LF and no CR.
+-- It serves the clauses of `command_audits`, `journals_audit` and `run_audits`.
 use Rattle.std.proofs.Common.{◌≡◌, ℕ, ◌==◌, true, not, ◌&&◌, List, [], ◌∷◌, ◌++◌, flat_map, codes, decimal, Option, Some, None, refl, ap}
 use Rattle.std.specs.List.{list_all}
 use Rattle.std.specs.Option.{option_to_list}
@@ -23,7 +24,7 @@ use Rattle.bsc_lines.specs.Replies.{counts_words, ending_word, holder_words, lis
 use Rattle.bsc_journal.specs.Saying.{HasLine, HasOctets, are_octets, are_short, call_is_short, is_short, look_is_short, reply_is_short}
 use Rattle.bsc_journal.proofs.Loosening.{hex_plain, plain, plain_digits}
 use Rattle.bsc_journal.proofs.Numbers.{digits}
-use Rattle.bsc_notes.specs.Octets.{DenialHasOctets}
+use Rattle.bsc_session.specs.Notes.Octets.{DenialHasOctets}
 use Rattle.bsc_journal_laws.specs.Lines.{is_clean, is_inner}
 use Rattle.bsc_journal_laws.proofs.Shorts.{short_32}
 

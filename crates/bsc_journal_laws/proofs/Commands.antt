@@ -1,4 +1,5 @@
 -- The journals of a hub that the command made may be believed.
+-- It serves the clauses of `command_audits`.
 use Rattle.std.proofs.Common.{inl, inr, ◌≡◌, ◌⊎◌, ℕ, ◌^◌, ◌≤◌, true, List, [], ◌∷◌, ◌++◌, codes, Option, Some, None, refl, ap, sym, ◌∙◌, subst, arith}
 use Rattle.std.specs.Arc.{arc_value}
 use Rattle.std.specs.Io.KnownBytes.{Appends}
@@ -13,13 +14,13 @@ use Rattle.bsc_octets.specs.declared.bounds.TheConstants.{LEAST_BVLC}
 use Rattle.bsc_turn.specs.Passes.{number_of}
 use Rattle.bsc_hub.specs.Passing.{about_of}
 use Rattle.bsc_hub.specs.Whole.{IsFirst}
-use Rattle.bsc_notes.specs.Notes.{HasLine}
+use Rattle.bsc_session.specs.Notes.Notes.{HasLine}
 use Rattle.bsc_player.specs.LastLines.{EndsWith, RanOut}
 use Rattle.bsc_session.specs.declared.job.SessionJob.{SessionJob}
 use Rattle.bsc_session.specs.declared.session_end.SessionEnd.{SessionEnd}
 use Rattle.bsc_session.specs.Jobs.{Worked}
 use Rattle.bsc_serve.specs.declared.end.ServeEnd.{ServeEnd}
-use Rattle.bsc_serve.specs.declared.end.ServeEnd.TheVariants.{AcceptFault, Done, JournalFault, NoMemory, StoppedBefore}
+use Rattle.bsc_serve.specs.declared.end.ServeEnd.TheVariants.{AcceptFault, Done, JournalFault, NoMemory, Requested, StoppedBefore}
 use Rattle.bsc_serve.specs.Events.{jobs_of}
 use Rattle.bsc_serve.specs.Serving.{Serving, stop_notes}
 use Rattle.bsc_serve.specs.Terms.{Terms}
@@ -100,6 +101,7 @@ module _ {L C N : Type 0} (talk : L → Option (List Said)) (faults : L → ℕ)
   stop_put terms before after (Done c u) w w' s says = s.ends.4
   stop_put terms before after (StoppedBefore at u) w w' s says =
       unlost s.lost (subst (λ r. HasLine (stop_notes (number_of before.beside.pass) r) s.lost) s.ends.3 s.has_line)
+  stop_put terms before after (Requested c u) w w' s says = s.ends.2
   stop_put terms before after AcceptFault w w' s says = absurd (ends_not 6 w w' _ (omega arith) says)
   stop_put terms before after JournalFault w w' s says = absurd (let k : 0 ≡ 4 = says.0 in let no : ⊥ = omega (arith, k) in no)
   stop_put terms before after NoMemory w w' s says = absurd (ran_not w w' says)
@@ -128,14 +130,17 @@ module _ {L C N : Type 0} (talk : L → Option (List Said)) (faults : L → ℕ)
     shorts : HasShort about
     shorts = subst (λ (a : About). HasShort a) (sym x.about) (shorts_by asked.settings)
 
-    served : (b : Begun Tells course asked place.own before after 0) (titled : Option (List ℕ)) → Appends (held b.begun) titled (hub_line about) → Bound Tells course asked titled (held b.own) (begun_with b.calls) after 0 → Audit
+    served : (b : Begun Tells course asked place.own before after 0) (titled : Option (List ℕ)) → Appends (held b.begun) titled (hub_line about)
+        → Bound Tells course asked titled (held b.own) (begun_with b.calls) after 0 → Audit
     served b titled put bound =
         let begun : held b.begun ≡ Some [] = empty (number_of x.first) b.begun (subst (λ (p : Option (List ℕ)). begins p (number_of x.first) b.begun) named b.of_pass) in
         let title : titled ≡ Some (hub_text about ++ 10 ∷ []) = appends_to (held b.begun) titled [] (hub_line about) begun put ∙ ap (λ (w : List ℕ). Some (hub_text about ++ w)) newline in
         let s = bound.serving in
         let holds = held_some titled (held b.own) (hub_text about ++ 10 ∷ []) (stop_notes (number_of x.first) s.stop) s.lost title s.records in
-        let none = stop_put (terms_of asked) (served_world (arc_value x.hub) titled (with_pass x.first (begun_with b.calls))) (served_world (arc_value x.hub) (held b.own) (with_pass x.last after)) bound.end before.written after.written s bound.says in
-        let recorded : IsRecorded talk faults notices readings held unput begins (terms_of asked) (served_world (arc_value x.hub) titled (with_pass x.first (begun_with b.calls))) prefix (hub_text about) =
+        let none = stop_put (terms_of asked) (served_world (arc_value x.hub) titled (with_pass x.first (begun_with b.calls)))
+        (served_world (arc_value x.hub) (held b.own) (with_pass x.last after)) bound.end before.written after.written s bound.says in
+        let recorded : IsRecorded talk faults notices readings held unput begins (terms_of asked) (served_world (arc_value x.hub) titled (with_pass x.first (begun_with b.calls))) prefix
+        (hub_text about) =
         record {
           named = named;
           empty = empty;
@@ -144,9 +149,11 @@ module _ {L C N : Type 0} (talk : L → Option (List Said)) (faults : L → ℕ)
           short = title_short about x.identity shorts.rows shorts.outbox shorts.calls;
           titled = title;
         } in
-        let files = there (terms_of asked) (served_world (arc_value x.hub) titled (with_pass x.first (begun_with b.calls))) (served_world (arc_value x.hub) (held b.own) (with_pass x.last after)) bound.end prefix (hub_text about) recorded s in (
+        let files = there (terms_of asked) (served_world (arc_value x.hub) titled (with_pass x.first (begun_with b.calls)))
+        (served_world (arc_value x.hub) (held b.own) (with_pass x.last after)) bound.end prefix (hub_text about) recorded s in (
           record { own = b.own; kept = b.keeps; own_file = holds.0; holds = holds.1; jobs = jobs_of s.events; taken = s.jobs; files = files.0; journals = files.1 },
-          λ gs whole order few. audits (terms_of asked) (served_world (arc_value x.hub) titled (with_pass x.first (begun_with b.calls))) (served_world (arc_value x.hub) (held b.own) (with_pass x.last after)) bound.end prefix (hub_text about)
+          λ gs whole order few. audits (terms_of asked) (served_world (arc_value x.hub) titled (with_pass x.first (begun_with b.calls)))
+              (served_world (arc_value x.hub) (held b.own) (with_pass x.last after)) bound.end prefix (hub_text about)
               holds.0 files.0 gs first_is x.new.2 recorded bounded s none holds.1 files.1 whole order few,
         )
 
@@ -159,5 +166,6 @@ module _ {L C N : Type 0} (talk : L → Option (List Said)) (faults : L → ℕ)
     audit (inl u) = absurd (lost_not before after _ u.says)
     audit (inr b) = titling b b.went
 
-  pub command_audits : RunAudits talk faults notices readings held unput begins → JournalsAreThere talk faults notices readings held unput begins → CommandAudits talk faults notices readings held unput begins
+  pub command_audits : RunAudits talk faults notices readings held unput begins → JournalsAreThere talk faults notices readings held unput begins
+      → CommandAudits talk faults notices readings held unput begins
   command_audits audits there asked place before after prefix x named empty = audit audits there asked place before after prefix x named empty x.went

@@ -1,11 +1,12 @@
 -- There are no more entries than octets in the journals that tell them.
+-- It serves the clauses of `command_audits`, `journals_are_there` and `run_audits`.
 use Rattle.std.proofs.Common.{◌≡◌, ℕ, suc, ◌+◌, ◌≤◌, List, [], ◌∷◌, ◌++◌, flat_map, length, map, refl, ap, arith, length-append}
 use Rattle.std.specs.List.{AllByRecursion}
 use Rattle.std.specs.List.Sorted.{IsPermutation}
 use Rattle.std.proofs.lemmas.List.Sorted.{length_permutation}
 use Rattle.bsc_history.specs.declared.entry.Entry.{Entry}
 use Rattle.bsc_lines.specs.Lines.{entry_line}
-use Rattle.bsc_notes.specs.Notes.{Note, denied, line_of, lines_of as octets_of, made}
+use Rattle.bsc_session.specs.Notes.Notes.{Note, denied, line_of, lines_of as octets_of, made}
 use Rattle.bsc_journal_laws.specs.Laws.{CallersNotes, begun_by, callers_in, files_of, octets_noted, put_together}
 use Rattle.bsc_journal_laws.specs.Placing.{own_placed, placed_from, told_by}
 

@@ -1,6 +1,8 @@
 -- What a session enters: its octets are octets, its frames are no longer than the hub takes, and it found its outbox empty no
 -- more often than it received.
-use Rattle.std.proofs.Common.{◌≡◌, inl, inr, ℕ, ◌+◌, ◌≤◌, ◌<◌, Bool, true, false, cond, ◌&&◌, List, [], ◌∷◌, ◌++◌, length, Option, Some, None, Result, Ok, Err, is_some, is_none, nat_lt, refl, ap, sym, ◌∙◌, subst, arith}
+-- It serves the clauses of `command_audits`, `journals_are_there` and `run_audits`.
+use Rattle.std.proofs.Common.{◌≡◌, inl, inr, ℕ, ◌+◌, ◌≤◌, ◌<◌, Bool, true, false, cond, ◌&&◌, List, [], ◌∷◌, ◌++◌, length, Option, Some, None, Result, Ok, Err, is_some, is_none}
+use Rattle.std.proofs.Common.{nat_lt, refl, ap, sym, ◌∙◌, subst, arith}
 use Rattle.std.specs.List.{AllByRecursion}
 use Rattle.std.proofs.lemmas.Bool.{ltb-false}
 use Rattle.bsc_octets.specs.declared.envelope.Envelope.{Envelope}
@@ -27,8 +29,8 @@ use Rattle.bsc_accept.specs.declared.step.Step.TheVariants.{Ask, Close, Nothing,
 use Rattle.bsc_lines.specs.declared.denial.Denial.{Denial}
 use Rattle.bsc_port.specs.Guarding.{denied_message}
 use Rattle.bsc_lemmas.proofs.Lists.{all_append}
-use Rattle.bsc_notes.specs.Notes.{Note, NotesHaveOctets, denied, made}
-use Rattle.bsc_notes.specs.Octets.{CallHasOctets}
+use Rattle.bsc_session.specs.Notes.Notes.{Note, NotesHaveOctets, denied, made}
+use Rattle.bsc_session.specs.Notes.Octets.{CallHasOctets}
 use Rattle.bsc_session.specs.declared.bounds.TheConstants.{TAKES}
 use Rattle.bsc_session.specs.declared.ended.Ended.{Ended}
 use Rattle.bsc_session.specs.Answering.{answered, called, forwarded_by, stands_heard, step_of}
@@ -213,7 +215,8 @@ heard_empties v s now (Some h) most = called_empties v s (step_of v s now h) h.g
 turns_empties : (v : Terms) (s : Standing) (ts : List Turn) (most : ℕ) → AllByRecursion (FewEmpties most) (shares entries_in_turn v s ts)
 turns_empties v s [] most = tt
 turns_empties v s (t ∷ ts) most =
-    all_append (FewEmpties most) (entries_in_turn v s t) (shares entries_in_turn v (after v s t) ts) (heard_empties v (opened s t.opening) t.opening.reading t.hearing most) (turns_empties v (after v s t) ts most)
+    all_append (FewEmpties most) (entries_in_turn v s t) (shares entries_in_turn v (after v s t) ts) (heard_empties v (opened s t.opening) t.opening.reading t.hearing most)
+    (turns_empties v (after v s t) ts most)
 
 left_empties : (caller : ℕ) (conn : Option ℕ) (taken empties most : ℕ) (e : End) → empties ≤ most → AllByRecursion (FewEmpties most) (leaving caller conn taken empties e)
 left_empties caller None taken empties most e few = tt

@@ -1,4 +1,5 @@
 -- The line of an entry is no longer than an audit takes.
+-- It serves clauses of functions of `laws`.
 use Rattle.std.proofs.Common.{◌≡◌, ℕ, ◌+◌, ◌*◌, ◌≤◌, true, ◌&&◌, List, [], ◌∷◌, ◌++◌, length, flat_map, codes, decimal, Option, Some, None, arith, length-append}
 use Rattle.std.specs.List.{list_all}
 use Rattle.std.specs.Option.{option_to_list}
@@ -24,7 +25,7 @@ use Rattle.bsc_lines.specs.Lines.{call_text, entry_line, look_text, looks_text, 
 use Rattle.bsc_lines.specs.Replies.{counts_words, ending_word, holder_words, list_words, replacing_words}
 use Rattle.bsc_journal.specs.Saying.{HasLine, HasOctets, are_short, call_is_short, is_short, look_is_short, reply_is_short}
 use Rattle.bsc_journal.proofs.Numbers.{short_below, short_fits}
-use Rattle.bsc_notes.specs.Octets.{DenialHasOctets}
+use Rattle.bsc_session.specs.Notes.Octets.{DenialHasOctets}
 use Rattle.bsc_journal_laws.specs.Lines.{IsSmall, frame_size, names_in}
 use Rattle.bsc_journal_laws.proofs.Shorts.{short_32}
 

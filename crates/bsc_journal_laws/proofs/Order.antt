@@ -1,4 +1,5 @@
 -- Journals may be read in any order.
+-- It serves the clauses of `files_in_any_order`, `journals_audit` and `run_audits`.
 use Rattle.std.proofs.Common.{◌≡◌, ◌≤◌, ℕ, Bool, true, nat_le, List, [], ◌∷◌, ◌++◌, length, filter, flat_map, map, refl, ap, sym, ◌∙◌, subst}
 use Rattle.std.specs.List.{AllByRecursion, list_all}
 use Rattle.std.specs.List.Sorted.{IsPermutation}
@@ -51,7 +52,8 @@ moved P xs ys s all = recursion_from_All P ys (All-permutation P xs ys s (All-fr
 pub together_long : (fs gs : List (List ℕ)) → IsPermutation fs gs → length (put_together gs) ≡ length (put_together fs)
 together_long fs gs s = length-flat_map (λ (o : List ℕ). o) gs ∙ sum_by-IsPermutation (λ (o : List ℕ). length o) fs gs s ∙ sym (length-flat_map (λ (o : List ℕ). o) fs)
 
-pub within_moved : (fs gs : List (List ℕ)) → AllByRecursion EndsWithLine fs → AllByRecursion EndsWithLine gs → IsPermutation fs gs → is_within (put_together fs) ≡ true → is_within (put_together gs) ≡ true
+pub within_moved : (fs gs : List (List ℕ)) → AllByRecursion EndsWithLine fs → AllByRecursion EndsWithLine gs → IsPermutation fs gs → is_within (put_together fs) ≡ true
+    → is_within (put_together gs) ≡ true
 within_moved fs gs ef eg s h =
     let parts = and_parts (nat_le (length (put_together fs)) most_octets) (list_all is_short_line (lines_of (put_together fs))) h in
     let long : length (put_together gs) ≡ length (put_together fs) =
@@ -91,7 +93,8 @@ pub fits_moved : (fs gs : List (List ℕ)) → AllByRecursion EndsWithLine fs �
     → list_all is_short_line (flat_map lines_of fs) ≡ true → is_within (put_together gs) ≡ true
 fits_moved fs gs ef s few short =
     let eg = moved EndsWithLine fs gs s ef in
-    let turned = moved (λ (l : List ℕ). is_short_line l ≡ true) (flat_map lines_of fs) (flat_map lines_of gs) (flat-permutation lines_of fs gs s) (all_true is_short_line (flat_map lines_of fs) short) in
+    let turned = moved (λ (l : List ℕ). is_short_line l ≡ true) (flat_map lines_of fs) (flat_map lines_of gs) (flat-permutation lines_of fs gs s)
+    (all_true is_short_line (flat_map lines_of fs) short) in
     and_from (nat_le (length (put_together gs)) most_octets) (list_all is_short_line (lines_of (put_together gs)))
     (le-leb (length (put_together gs)) most_octets few)
     (ap (list_all is_short_line) (lines_together gs eg) ∙ true_all is_short_line (flat_map lines_of gs) turned)

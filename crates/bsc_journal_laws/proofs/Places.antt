@@ -1,11 +1,13 @@
 -- Notes of all own entries of a caller are those entries with their places.
-use Rattle.std.proofs.Common.{inl, inr, ⊎_elim, ◌≡◌, ◌⊎◌, ℕ, zero, suc, ◌+◌, ◌≤◌, ◌==◌, Bool, true, false, cond, List, [], ◌∷◌, ◌++◌, length, slice_get, Some, None, refl, ap, sym, ◌∙◌, subst, arith, append_assoc, append-nil}
+-- It serves clauses of functions of `laws`.
+use Rattle.std.proofs.Common.{inl, inr, ⊎_elim, ◌≡◌, ◌⊎◌, ℕ, zero, suc, ◌+◌, ◌≤◌, ◌==◌, Bool, true, false, cond, List, [], ◌∷◌, ◌++◌, length, slice_get, Some, None, refl, ap, sym}
+use Rattle.std.proofs.Common.{◌∙◌, subst, arith, append_assoc, append-nil}
 use Rattle.std.specs.List.{AllByRecursion}
 use Rattle.std.specs.Prelude.{⊤}
 use Rattle.std.proofs.lemmas.List.{length-map, length_push}
 use Rattle.bsc_history.specs.declared.entry.Entry.{Entry}
 use Rattle.bsc_history.specs.Entries.{own}
-use Rattle.bsc_notes.specs.Notes.{Note, denied, made}
+use Rattle.bsc_session.specs.Notes.Notes.{Note, denied, made}
 use Rattle.bsc_session.specs.Serving.{AllStand, RiseWithin}
 use Rattle.bsc_journal_laws.specs.Placing.{PlacedEntry, entries_in, own_from, own_placed, placed, told_by}
 

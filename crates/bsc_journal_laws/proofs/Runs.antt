@@ -1,5 +1,7 @@
 -- What the journals of the jobs of a hub that was served tell.
-use Rattle.std.proofs.Common.{⊎_elim, ◌≡◌, ◌≢◌, ℕ, cond, ◌+◌, ◌^◌, ◌==◌, ◌<◌, ◌≤◌, Bool, true, false, List, [], ◌∷◌, ◌++◌, length, filter, map, take, Option, Some, None, is_some, refl, ap, sym, ◌∙◌, subst, arith}
+-- It serves the clauses of `command_audits`, `journals_are_there` and `run_audits`.
+use Rattle.std.proofs.Common.{⊎_elim, ◌≡◌, ◌≢◌, ℕ, cond, ◌+◌, ◌^◌, ◌==◌, ◌<◌, ◌≤◌, Bool, true, false, List, [], ◌∷◌, ◌++◌, length, filter, map, take, Option, Some, None, is_some}
+use Rattle.std.proofs.Common.{refl, ap, sym, ◌∙◌, subst, arith}
 use Rattle.std.specs.List.{AllByRecursion}
 use Rattle.std.specs.Arc.{arc_value}
 use Rattle.std.specs.Io.KnownBytes.{Appends}
@@ -12,8 +14,8 @@ use Rattle.bsc_history.proofs.Lists.{In, In_from_all, In_kept, all_from_In}
 use Rattle.bsc_edge.specs.declared.fault.LinkFault.{LinkFault}
 use Rattle.bsc_edge.specs.declared.notice.Notice.{Notice}
 use Rattle.bsc_edge.specs.declared.said.Said.{Said}
-use Rattle.bsc_notes.specs.Notes.{Note, NotesHaveOctets, Records, RecordsPart, denied, lines_of as octets_of, made}
-use Rattle.bsc_notes.specs.Octets.{CallHasOctets}
+use Rattle.bsc_session.specs.Notes.Notes.{Note, NotesHaveOctets, Records, RecordsPart, denied, lines_of as octets_of, made}
+use Rattle.bsc_session.specs.Notes.Octets.{CallHasOctets}
 use Rattle.bsc_policy.specs.declared.policy.Policy.{Policy}
 use Rattle.bsc_turn.specs.declared.pass.Pass.{Pass}
 use Rattle.bsc_turn.specs.Callers.{has}

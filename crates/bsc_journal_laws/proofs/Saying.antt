@@ -1,5 +1,7 @@
 -- An entry of a legal history that can be said has a line.
-use Rattle.std.proofs.Common.{◌≡◌, ℕ, ◌+◌, ◌*◌, ◌≤◌, ◌^◌, Bool, true, false, not, ◌&&◌, cond, nat_le, nat_lt, List, [], ◌∷◌, ◌++◌, length, map, option_to_list, Option, Some, None, refl, ap, sym, ◌∙◌, subst, arith, append_assoc}
+-- It serves the clauses of `legal_has_lines` and `run_audits`.
+use Rattle.std.proofs.Common.{◌≡◌, ℕ, ◌+◌, ◌*◌, ◌≤◌, ◌^◌, Bool, true, false, not, ◌&&◌, cond, nat_le, nat_lt, List, [], ◌∷◌, ◌++◌, length, map, option_to_list, Option, Some, None}
+use Rattle.std.proofs.Common.{refl, ap, sym, ◌∙◌, subst, arith, append_assoc}
 use Rattle.std.specs.List.{AllByRecursion}
 use Rattle.std.proofs.lemmas.Bool.{and_from, and_parts, leb-true}
 use Rattle.std.proofs.lemmas.List.{length_push}
@@ -25,11 +27,12 @@ use Rattle.bsc_history.specs.Replies.{broadcast_reply, connect_reply, forward_re
 use Rattle.bsc_history.proofs.Lifting.{own_joined}
 use Rattle.bsc_history.proofs.Lists.{In, find_says}
 use Rattle.bsc_history.proofs.Parts.{Legal-at, Legal-first}
-use Rattle.bsc_notes.specs.Octets.{CallHasOctets}
+use Rattle.bsc_session.specs.Notes.Octets.{CallHasOctets}
 use Rattle.bsc_journal.specs.Journals.{HaveLines}
 use Rattle.bsc_journal.specs.Saying.{FitsCall, HasLine, HasOctets, ShowsLooks, are_short, call_is_short, is_short, reply_is_short}
 use Rattle.bsc_journal_laws.specs.Lines.{CanBeSaid, empties_in}
-use Rattle.bsc_journal_laws.proofs.Bounds.{IsBelow, counts_few, counts_short, few_joined, found_below, found_few, looks_below, looks_short, meant_below, number_below, number_short, picked_short, rival_short}
+use Rattle.bsc_journal_laws.proofs.Bounds.{IsBelow, counts_few, counts_short, few_joined, found_below, found_few, looks_below, looks_short, meant_below, number_below, number_short}
+use Rattle.bsc_journal_laws.proofs.Bounds.{picked_short, rival_short}
 use Rattle.bsc_journal_laws.proofs.Shorts.{short_63}
 
 -- ---- looks are shown
@@ -57,7 +60,8 @@ fits_one who false false None false rows n k = tt
 
 fits_connect : (a : About) (G : List Entry) (who : Identity) → FitsCall (Connect who) (connect_reply a G who)
 unfolding connect_reply
-fits_connect a G who = fits_one who (is_stopped G) (same_vmac who.vmac a.hub.vmac) (rival who (holder G who.vmac)) (nat_le a.limits.rows (length (unleft G))) a.limits.rows (1 + length (joined G)) (number_of (of_device G who.device))
+fits_connect a G who = fits_one who (is_stopped G) (same_vmac who.vmac a.hub.vmac) (rival who (holder G who.vmac)) (nat_le a.limits.rows (length (unleft G))) a.limits.rows
+    (1 + length (joined G)) (number_of (of_device G who.device))
 
 fits_unicast : (call : Call) (a : About) (G : List Entry) (m o : List ℕ) (looks : List Look) (r : Option Connection) → FitsCall call (unicast_reply a G m o looks r)
 fits_unicast call a G m o looks None = tt
@@ -73,7 +77,12 @@ fits_forward a G sender m looks =
     let call = Forward sender m in
     let o = out_of G sender m in
     let body = cond (is_broadcast m) (broadcast_reply a G o looks (meant G sender m)) (unicast_reply a G m o looks (holder G (destination m))) in
-    let sends : FitsCall call body = elim (is_broadcast m) as (λ b. FitsCall call (cond b (broadcast_reply a G o looks (meant G sender m)) (unicast_reply a G m o looks (holder G (destination m))))) [ true ↦ tt | false ↦ fits_unicast call a G m o looks (holder G (destination m)) ] in
+    let sends : FitsCall call body = elim (is_broadcast m) as (λ b. FitsCall call
+    (cond b (broadcast_reply a G o looks (meant G sender m)) (unicast_reply a G m o looks (holder G (destination m))))) [
+      | true ↦ tt
+      | false ↦ fits_unicast call a G m o looks
+          (holder G (destination m))
+    ] in
     let unended : FitsCall call (unless_ended (ended G sender) body) = elim (ended G sender) as (λ w. FitsCall call (unless_ended w body)) [ None ↦ sends | Some k ↦ tt ] in
     elim (is_stopped G) as (λ b. FitsCall call (cond b Stopped (unless_ended (ended G sender) body))) [ true ↦ refl | false ↦ unended ]
 
@@ -105,7 +114,8 @@ call_short a G caller Count legal few may empties = refl
 
 -- ---- the numbers of the reply are short
 
-connect_short : (s d : Bool) (r : Option ℕ) (full : Bool) (rows n : ℕ) (k : Option ℕ) → are_short (option_to_list r) ≡ true → is_short rows ≡ true → is_short n ≡ true → are_short (option_to_list k) ≡ true
+connect_short : (s d : Bool) (r : Option ℕ) (full : Bool) (rows n : ℕ) (k : Option ℕ) → are_short (option_to_list r) ≡ true → is_short rows ≡ true → is_short n ≡ true
+    → are_short (option_to_list k) ≡ true
     → reply_is_short (cond s (Refused RefusedStopped) (cond d (Refused (Duplicate None)) (refused_as_held r (cond full (Refused (TableFull rows)) (Joined n k))))) ≡ true
 connect_short true d r full rows n k hr hrows hn hk = refl
 connect_short false true r full rows n k hr hrows hn hk = refl
@@ -118,15 +128,18 @@ unfolding connect_reply
 short_connect a G who legal rows few =
     let wide : length G ≤ 2 ^ 63 = omega (arith, few) in
     let held = found_below a G (λ (c : Connection). same_vmac c.who.vmac who.vmac) legal (holder G who.vmac) (find_says (λ (c : Connection). same_vmac c.who.vmac who.vmac) (live G)) in
-    let same = found_below a G (λ (c : Connection). same_device c.who.device who.device) legal (of_device G who.device) (find_says (λ (c : Connection). same_device c.who.device who.device) (live G)) in
+    let same = found_below a G (λ (c : Connection). same_device c.who.device who.device) legal (of_device G who.device)
+    (find_says (λ (c : Connection). same_device c.who.device who.device) (live G)) in
     let most = few_joined a G legal in
-    connect_short (is_stopped G) (same_vmac who.vmac a.hub.vmac) (rival who (holder G who.vmac)) (nat_le a.limits.rows (length (unleft G))) a.limits.rows (1 + length (joined G)) (number_of (of_device G who.device))
+    connect_short (is_stopped G) (same_vmac who.vmac a.hub.vmac) (rival who (holder G who.vmac)) (nat_le a.limits.rows (length (unleft G))) a.limits.rows (1 + length (joined G))
+    (number_of (of_device G who.device))
     (rival_short (length G) who (holder G who.vmac) wide held)
     (short_63 a.limits.rows (omega (arith, rows)))
     (short_63 (1 + length (joined G)) (omega (arith, most, few)))
     (number_short (length G) (of_device G who.device) wide same)
 
-short_unicast : (a : About) (G : List Entry) (m o : List ℕ) (looks : List Look) (r : Option Connection) → length G ≤ 2 ^ 63 → IsBelow (length G) r → reply_is_short (unicast_reply a G m o looks r) ≡ true
+short_unicast : (a : About) (G : List Entry) (m o : List ℕ) (looks : List Look) (r : Option Connection) → length G ≤ 2 ^ 63 → IsBelow (length G) r
+    → reply_is_short (unicast_reply a G m o looks r) ≡ true
 short_unicast a G m o looks None few below = refl
 short_unicast a G m o looks (Some c) few below =
     let k : c.number ≤ length G = below in
@@ -136,7 +149,8 @@ short_unicast a G m o looks (Some c) few below =
       | false ↦ elim (is_found_full a (sent a G c.number) looks c.number) as (λ b. reply_is_short (cond b (Closed c.number) (Appended c.number)) ≡ true) [ true ↦ short | false ↦ short ]
     ]
 
-short_broadcast : (a : About) (G : List Entry) (o : List ℕ) (looks : List Look) (xs : List Connection) → length G ≤ 2 ^ 63 → ((x : Connection) → In x xs → x.number ≤ length G) → reply_is_short (broadcast_reply a G o looks xs) ≡ true
+short_broadcast : (a : About) (G : List Entry) (o : List ℕ) (looks : List Look) (xs : List Connection) → length G ≤ 2 ^ 63 → ((x : Connection) → In x xs → x.number ≤ length G)
+    → reply_is_short (broadcast_reply a G o looks xs) ≡ true
 short_broadcast a G o looks xs few below =
     let full = λ (c : Connection). is_found_full a (sent a G c.number) looks c.number in
     let to = picked_short (length G) (λ c. not (is_too_long o c) && not (full c)) xs few below in
@@ -148,18 +162,21 @@ short_forward : (a : About) (G : List Entry) (sender : ℕ) (m : List ℕ) (look
 unfolding forward_reply
 short_forward a G sender m looks legal few =
     let o = out_of G sender m in
-    let held = found_below a G (λ (c : Connection). same_vmac c.who.vmac (destination m)) legal (holder G (destination m)) (find_says (λ (c : Connection). same_vmac c.who.vmac (destination m)) (live G)) in
+    let held = found_below a G (λ (c : Connection). same_vmac c.who.vmac (destination m)) legal (holder G (destination m))
+    (find_says (λ (c : Connection). same_vmac c.who.vmac (destination m)) (live G)) in
     let all = short_broadcast a G o looks (meant G sender m) few (λ x there. meant_below a G sender m x legal there) in
     let one = short_unicast a G m o looks (holder G (destination m)) few held in
     let body = cond (is_broadcast m) (broadcast_reply a G o looks (meant G sender m)) (unicast_reply a G m o looks (holder G (destination m))) in
-    let sends : reply_is_short body ≡ true = elim (is_broadcast m) as (λ b. reply_is_short (cond b (broadcast_reply a G o looks (meant G sender m)) (unicast_reply a G m o looks (holder G (destination m)))) ≡ true) [ true ↦ all | false ↦ one ] in
+    let sends : reply_is_short body ≡ true = elim (is_broadcast m) as (λ b. reply_is_short
+    (cond b (broadcast_reply a G o looks (meant G sender m)) (unicast_reply a G m o looks (holder G (destination m)))) ≡ true) [ true ↦ all | false ↦ one ] in
     let unended : reply_is_short (unless_ended (ended G sender) body) ≡ true = elim (ended G sender) as (λ w. reply_is_short (unless_ended w body) ≡ true) [ None ↦ sends | Some k ↦ refl ] in
     elim (is_stopped G) as (λ b. reply_is_short (cond b Stopped (unless_ended (ended G sender) body)) ≡ true) [ true ↦ refl | false ↦ unended ]
 
 short_counts : (a : About) (G : List Entry) → Legal a G → a.limits.rows ≤ 1024 → length G ≤ 2 ^ 28 → reply_is_short (reply a G Stop []) ≡ true
 short_counts a G legal rows few = counts_short (3073 * length G) (counts G) (omega (arith, few)) (counts_few a G legal rows)
 
-reply_short : (a : About) (G : List Entry) (call : Call) (looks : List Look) → Legal a G → a.limits.rows ≤ 1024 → length G ≤ 2 ^ 28 → call_is_short call ≡ true → reply_is_short (reply a G call looks) ≡ true
+reply_short : (a : About) (G : List Entry) (call : Call) (looks : List Look) → Legal a G → a.limits.rows ≤ 1024 → length G ≤ 2 ^ 28 → call_is_short call ≡ true
+    → reply_is_short (reply a G call looks) ≡ true
 reply_short a G (Connect who) looks legal rows few short = short_connect a G who legal rows few
 reply_short a G (Forward sender m) looks legal rows few short = short_forward a G sender m looks legal (omega (arith, few))
 reply_short a G (Leave c taken n) looks legal rows few short =

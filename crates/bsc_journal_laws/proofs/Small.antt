@@ -1,5 +1,7 @@
 -- The entries of a legal history are small, where a hub has few rows.
-use Rattle.std.proofs.Common.{◌≡◌, ℕ, ◌+◌, ◌≤◌, Bool, true, false, not, ◌||◌, ◌&&◌, cond, nat_le, List, [], ◌∷◌, ◌++◌, filter, length, map, option_to_list, Option, Some, None, is_none, refl, ap, sym, subst, arith, append_assoc, length-append}
+-- It serves the clauses of `legal_has_lines`, `legal_is_small` and `run_audits`.
+use Rattle.std.proofs.Common.{◌≡◌, ℕ, ◌+◌, ◌≤◌, Bool, true, false, not, ◌||◌, ◌&&◌, cond, nat_le, List, [], ◌∷◌, ◌++◌, filter, length, map, option_to_list, Option, Some, None}
+use Rattle.std.proofs.Common.{is_none, refl, ap, sym, subst, arith, append_assoc, length-append}
 use Rattle.std.specs.List.{AllByRecursion}
 use Rattle.std.proofs.lemmas.Bool.{leb-false}
 use Rattle.std.proofs.lemmas.List.{length-map}
@@ -39,9 +41,11 @@ room_in false false None false rows n k c p h = refl
 
 room_joined : (a : About) (G : List Entry) (who : Identity) (c : ℕ) (p : Option ℕ) → connect_reply a G who ≡ Joined c p → nat_le a.limits.rows (length (unleft G)) ≡ false
 unfolding connect_reply
-room_joined a G who c p h = room_in (is_stopped G) (same_vmac who.vmac a.hub.vmac) (rival who (holder G who.vmac)) (nat_le a.limits.rows (length (unleft G))) a.limits.rows (1 + length (joined G)) (number_of (of_device G who.device)) c p h
+room_joined a G who c p h = room_in (is_stopped G) (same_vmac who.vmac a.hub.vmac) (rival who (holder G who.vmac)) (nat_le a.limits.rows (length (unleft G))) a.limits.rows
+    (1 + length (joined G)) (number_of (of_device G who.device)) c p h
 
-room : (a : About) (G : List Entry) (caller : ℕ) (call : Call) (looks : List Look) (r : Reply) (x : Connection) → made_by caller call r ≡ Some x → r ≡ reply a G call looks → nat_le a.limits.rows (length (unleft G)) ≡ false
+room : (a : About) (G : List Entry) (caller : ℕ) (call : Call) (looks : List Look) (r : Reply) (x : Connection) → made_by caller call r ≡ Some x → r ≡ reply a G call looks
+    → nat_le a.limits.rows (length (unleft G)) ≡ false
 room a G caller (Connect who) looks (Joined c p) x made h = room_joined a G who c p (sym h)
 room a G caller (Connect who) looks r x made h = cc
 room a G caller (Forward c m) looks r x made h = cc
@@ -122,7 +126,8 @@ names_forward a G sender m looks legal =
     let all = names_broadcast a G o looks (meant G sender m) in
     let none = names_unicast a G m o looks (holder G (destination m)) in
     let body = cond (is_broadcast m) (broadcast_reply a G o looks (meant G sender m)) (unicast_reply a G m o looks (holder G (destination m))) in
-    let sends : names_in body ≤ n = elim (is_broadcast m) as (λ b. names_in (cond b (broadcast_reply a G o looks (meant G sender m)) (unicast_reply a G m o looks (holder G (destination m)))) ≤ n) [ true ↦ omega (arith, few, all) | false ↦ omega (arith, none) ] in
+    let sends : names_in body ≤ n = elim (is_broadcast m) as (λ b. names_in (cond b (broadcast_reply a G o looks (meant G sender m)) (unicast_reply a G m o looks (holder G (destination m))))
+    ≤ n) [ true ↦ omega (arith, few, all) | false ↦ omega (arith, none) ] in
     let unended : names_in (unless_ended (ended G sender) body) ≤ n = elim (ended G sender) as (λ w. names_in (unless_ended w body) ≤ n) [ None ↦ sends | Some k ↦ omega arith ] in
     elim (is_stopped G) as (λ b. names_in (cond b Stopped (unless_ended (ended G sender) body)) ≤ n) [ true ↦ omega arith | false ↦ unended ]
 
@@ -136,7 +141,8 @@ connect_names false false None false rows n k = refl
 
 names_connect : (a : About) (G : List Entry) (who : Identity) → names_in (connect_reply a G who) ≡ 0
 unfolding connect_reply
-names_connect a G who = connect_names (is_stopped G) (same_vmac who.vmac a.hub.vmac) (rival who (holder G who.vmac)) (nat_le a.limits.rows (length (unleft G))) a.limits.rows (1 + length (joined G)) (number_of (of_device G who.device))
+names_connect a G who = connect_names (is_stopped G) (same_vmac who.vmac a.hub.vmac) (rival who (holder G who.vmac)) (nat_le a.limits.rows (length (unleft G))) a.limits.rows
+    (1 + length (joined G)) (number_of (of_device G who.device))
 
 pub few_names : (a : About) (G : List Entry) (call : Call) (looks : List Look) → Legal a G → names_in (reply a G call looks) ≤ a.limits.rows + a.limits.rows + a.limits.rows
 few_names a G (Connect who) looks legal = (let none = names_connect a G who in omega (arith, none))

@@ -1,4 +1,5 @@
 -- The first line of a hub's own journal is one line, and no longer than an audit takes.
+-- It serves the clauses of `command_audits`.
 use Rattle.std.proofs.Common.{◌≡◌, ℕ, zero, suc, ◌+◌, ◌*◌, ◌≤◌, true, nat_lt, List, [], ◌∷◌, ◌++◌, length, take, drop, codes, refl, arith}
 use Rattle.std.proofs.lemmas.Bool.{and_from, and_parts}
 use Rattle.std.proofs.lemmas.List.{length-drop, length-take-le}

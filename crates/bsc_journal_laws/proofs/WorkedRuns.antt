@@ -1,5 +1,6 @@
 -- A small run, worked by hand: A and B join a hub, A sends to B, and the hub stops. Its three journals may be believed, whatever order
 -- they are read in. Journals in which two lines have one place may not.
+-- No clause needs it: worked examples.
 use Rattle.std.proofs.Common.{inl, inr, ◌≡◌, ◌≢◌, true, ℕ, ◌<◌, ◌≤◌, List, [], ◌∷◌, length, refl, subst, arith}
 use Rattle.std.specs.Prelude.{⊤}
 use Rattle.std.specs.List.{AllByRecursion}
@@ -15,8 +16,8 @@ use Rattle.bsc_history.specs.Laws.{Apart}
 use Rattle.bsc_history.specs.Legality.{Legal}
 use Rattle.bsc_turn.specs.Callers.{has}
 use Rattle.bsc_script.proofs.OnLiterals.{script_on_literals}
-use Rattle.bsc_notes.specs.Notes.{Note, lines_of as octets_of, made}
-use Rattle.bsc_journal.specs.declared.said.Said.TheVariants.{Hub, Entry as AnEntry}
+use Rattle.bsc_session.specs.Notes.Notes.{Note, lines_of as octets_of, made}
+use Rattle.bsc_journal.specs.declared.journal_record.JournalRecord.TheVariants.{Hub, Entry as AnEntry}
 use Rattle.bsc_journal.specs.Journals.{Audited, HaveLines, most_octets}
 use Rattle.bsc_journal.specs.Saying.{HasLine, IsHubLine, IsLineOf}
 use Rattle.bsc_journal.proofs.OnLiterals.{journals_on_literals}
@@ -51,13 +52,40 @@ clean : is_clean hub_line ≡ true
 clean = refl
 
 a_has : HasLine 0 a_joins
-a_has = record { place_short = refl; caller_short = refl; call_short = refl; looks_short = refl; reply_short = refl; octets = record { long = refl; octets = refl; said = refl }; shown = refl; fits = tt }
+a_has = record {
+  place_short = refl;
+  caller_short = refl;
+  call_short = refl;
+  looks_short = refl;
+  reply_short = refl;
+  octets = record { long = refl; octets = refl; said = refl };
+  shown = refl;
+  fits = tt;
+}
 
 b_has : HasLine 1 b_joins
-b_has = record { place_short = refl; caller_short = refl; call_short = refl; looks_short = refl; reply_short = refl; octets = record { long = refl; octets = refl; said = refl }; shown = refl; fits = tt }
+b_has = record {
+  place_short = refl;
+  caller_short = refl;
+  call_short = refl;
+  looks_short = refl;
+  reply_short = refl;
+  octets = record { long = refl; octets = refl; said = refl };
+  shown = refl;
+  fits = tt;
+}
 
 sent_has : HasLine 2 (a_sends 0)
-sent_has = record { place_short = refl; caller_short = refl; call_short = refl; looks_short = refl; reply_short = refl; octets = (refl, (let some : 0 < 12 = omega arith in some)); shown = tt; fits = tt }
+sent_has = record {
+  place_short = refl;
+  caller_short = refl;
+  call_short = refl;
+  looks_short = refl;
+  reply_short = refl;
+  octets = (refl, (let some : 0 < 12 = omega arith in some));
+  shown = tt;
+  fits = tt;
+}
 
 stop_has : HasLine 3 stop
 stop_has = record { place_short = refl; caller_short = refl; call_short = refl; looks_short = refl; reply_short = refl; octets = tt; shown = refl; fits = tt }

@@ -9,7 +9,7 @@ use Rattle.bsc_history.specs.Legality.{Legal}
 use Rattle.bsc_turn.specs.Callers.{has}
 use Rattle.bsc_edge.specs.declared.said.Said.{Said}
 use Rattle.bsc_lines.specs.Lines.{entry_line}
-use Rattle.bsc_notes.specs.Notes.{Note, lines_of as octets_of}
+use Rattle.bsc_session.specs.Notes.Notes.{Note, lines_of as octets_of}
 use Rattle.bsc_session.specs.declared.ended.Ended.{Ended}
 use Rattle.bsc_session.specs.Serving.{AllStand, RiseWithin}
 use Rattle.bsc_session.specs.Standings.{Terms}

@@ -8,8 +8,8 @@ use Rattle.bsc_history.specs.declared.reply.Reply.{Reply}
 use Rattle.bsc_history.specs.declared.reply.Reply.TheVariants.{SentAll}
 use Rattle.bsc_lines.specs.Denials.{denial_line}
 use Rattle.bsc_lines.specs.Lines.{entry_line}
-use Rattle.bsc_notes.specs.Notes.{Note, denied, made}
-use Rattle.bsc_notes.specs.Octets.{CallHasOctets, DenialHasOctets}
+use Rattle.bsc_session.specs.Notes.Notes.{Note, denied, made}
+use Rattle.bsc_session.specs.Notes.Octets.{CallHasOctets, DenialHasOctets}
 use Rattle.bsc_journal.specs.Saying.{HasLine, is_short}
 
 -- ---- lines

@@ -1,6 +1,6 @@
 //! Lines of a journal (docs/AUDIT.md, "What a journal is").
 ghost use Rattle.std.specs.Prelude.{◌≡◌, IfSome};
-ghost use Rattle.bsc_journal.specs.declared.said.Said.{Said as SaidOf};
+ghost use Rattle.bsc_journal.specs.declared.journal_record.JournalRecord.{JournalRecord as SaidOf};
 ghost use Rattle.bsc_journal.specs.Saying.{Says};
 
 use crate::script::hold_hub;

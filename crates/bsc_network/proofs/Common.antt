@@ -1,4 +1,5 @@
 -- Lemmas that crates above cite too.
+-- It serves bsc_network_laws, bsc_network_script_laws and bsc_world.
 use Rattle.bsc_network.specs.Changes.{by_target, unchanged, with_found}
 use Rattle.bsc_network.specs.Courses.{end_time, MayAdd, MayAddAll, MayMakeAll, MayMake}
 use Rattle.bsc_network.specs.HubSides.{unless_over}

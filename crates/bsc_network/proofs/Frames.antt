@@ -1,4 +1,5 @@
 -- What entered an outbox, with its places, at a history with one entry more.
+-- It serves bsc_network_laws and bsc_world.
 use Rattle.std.proofs.Common.{◌≡◌, ◌≤◌, ℕ, zero, suc, List, [], ◌∷◌, ◌++◌, Some, refl, ap, sym, arith, ◌∙◌, append_assoc, append-nil}
 use Rattle.std.specs.Prelude.{length, map, take, slice_get}
 use Rattle.std.proofs.lemmas.List.{map-append}
@@ -31,7 +32,8 @@ octets-after : (a : About) (c : ℕ) (posted : List Posted) (G : List Entry) →
 octets-after a c [] G = append-nil (sent a G c) ∙ ap (λ (F : List Entry). sent a F c) (sym (append-nil G))
 octets-after a c (p ∷ posted) G =
     let octets = λ (f : Frame). f.octets in
-    ap (λ (l : List (List ℕ)). sent a G c ++ l) (map-append octets (frames_by a G c p) (frames_after a (G ++ p.entry ∷ []) c posted) ∙ ap (λ (l : List (List ℕ)). l ++ map octets (frames_after a (G ++ p.entry ∷ []) c posted)) (octets-placed p.sent_at (added a (moment G p.entry) (sent a G c) c)))
+    ap (λ (l : List (List ℕ)). sent a G c ++ l) (map-append octets (frames_by a G c p) (frames_after a (G ++ p.entry ∷ []) c posted)
+    ∙ ap (λ (l : List (List ℕ)). l ++ map octets (frames_after a (G ++ p.entry ∷ []) c posted)) (octets-placed p.sent_at (added a (moment G p.entry) (sent a G c) c)))
     ∙ sym (append_assoc (sent a G c) (added a (moment G p.entry) (sent a G c) c) (map octets (frames_after a (G ++ p.entry ∷ []) c posted)))
     ∙ ap (λ (l : List (List ℕ)). l ++ map octets (frames_after a (G ++ p.entry ∷ []) c posted)) (sym (sent-more a G p.entry c))
     ∙ octets-after a c posted (G ++ p.entry ∷ [])

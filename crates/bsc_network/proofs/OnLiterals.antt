@@ -1,4 +1,5 @@
 -- What an answer unfolds to compute what a network does at steps that are written out.
+-- It serves bsc_network_laws.
 use Rattle.std.specs.Prelude.{⊤}
 use Rattle.std.specs.Fmt.{digits}
 use Rattle.std.specs.Str.{is_utf8, chars}

@@ -1,4 +1,5 @@
 -- A list one element of which is changed: the other elements, and what all of them have in common.
+-- It serves bsc_network_laws and bsc_world.
 use Rattle.std.proofs.Common.{◌≡◌, ◌≢◌, ◌⊎◌, inl, inr, ℕ, set, zero, suc, Bool, true, false, List, [], ◌∷◌, ◌++◌, Option, Some, None, refl, ap, sym, subst}
 use Rattle.std.specs.Prelude.{length, slice_get, find, cond, reverse}
 use Rattle.std.proofs.lemmas.List.{reverse-append}
@@ -41,7 +42,8 @@ all-changed P zero f keeps (x ∷ xs) all = (keeps x all.0, all.1)
 all-changed P (suc i) f keeps (x ∷ xs) all = (all.0, all-changed P i f keeps xs all.1)
 
 -- The same, where the change is known to be of an element of the list.
-pub all-changed_here : {A : Type 0} (P : A → Type 0) (i : ℕ) (f : A → A) (xs : List A) → ((x : A) → slice_get xs i ≡ Some x → P x → P (f x)) → AllByRecursion P xs → AllByRecursion P (changed_at i f xs)
+pub all-changed_here : {A : Type 0} (P : A → Type 0) (i : ℕ) (f : A → A) (xs : List A) → ((x : A) → slice_get xs i ≡ Some x → P x → P (f x)) → AllByRecursion P xs
+    → AllByRecursion P (changed_at i f xs)
 all-changed_here P i f [] keeps all = tt
 all-changed_here P zero f (x ∷ xs) keeps all = (keeps x refl all.0, all.1)
 all-changed_here P (suc i) f (x ∷ xs) keeps all = (all.0, all-changed_here P i f xs keeps all.1)

@@ -1,4 +1,5 @@
 -- What the networks that are written out share: hubs and nodes, steps, and what is looked at afterwards.
+-- It serves bsc_network_laws.
 use Rattle.std.proofs.Common.{ℕ, Bool, true, false, List, [], ◌∷◌, replicate}
 use Rattle.std.specs.Prelude.{map, filter_map, length, Option}
 use Rattle.bsc_octets.specs.declared.vmac.Vmac.{Vmac}

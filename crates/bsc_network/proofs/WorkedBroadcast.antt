@@ -1,4 +1,5 @@
 -- Broadcasts over a hub, by computation.
+-- No clause needs it: worked examples.
 use Rattle.std.proofs.Common.{◌≡◌, List, [], ◌∷◌, ◌++◌, refl}
 use Rattle.bsc_octets.specs.Addresses.{broadcast}
 use Rattle.bsc_network.specs.declared.world_step.WorldStep.{WorldStep}

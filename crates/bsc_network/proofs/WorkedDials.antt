@@ -1,4 +1,5 @@
 -- Dials that fail, and a node that dials itself, by computation.
+-- No clause needs it: worked examples.
 use Rattle.std.proofs.Common.{◌≡◌, true, List, [], ◌∷◌, ◌++◌, replicate, refl}
 use Rattle.std.specs.Prelude.{map, filter_map, length}
 use Rattle.bsc_connector.specs.declared.side.Side.TheVariants.{Primary, Failover}

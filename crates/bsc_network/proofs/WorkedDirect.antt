@@ -1,4 +1,5 @@
 -- Direct connections, by computation.
+-- No clause needs it: worked examples.
 use Rattle.std.proofs.Common.{◌≡◌, List, [], ◌∷◌, ◌++◌, Some, refl}
 use Rattle.bsc_node.specs.declared.node_event.NodeEvent.TheVariants.{Resolve, DirectTo}
 use Rattle.bsc_network.specs.declared.target.Target.TheVariants.{Hub as ToHub, Node as ToNode}

@@ -1,4 +1,5 @@
 -- How links and sessions end, by computation: a loss, a stop, and a node that ends.
+-- No clause needs it: worked examples.
 use Rattle.std.proofs.Common.{◌≡◌, true, false, List, [], ◌∷◌, ◌++◌, Some, None, refl}
 use Rattle.bsc_node.specs.declared.node_event.NodeEvent.TheVariants.{Finish}
 use Rattle.bsc_network.specs.declared.target.Target.TheVariants.{Hub as ToHub}

@@ -1,4 +1,5 @@
 -- Why steps are refused, by computation.
+-- No clause needs it: worked examples.
 use Rattle.std.proofs.Common.{◌≡◌, List, [], ◌∷◌, ◌++◌, Some, None, refl}
 use Rattle.bsc_node.specs.declared.node_event.NodeEvent.TheVariants.{Arrived, NoRandom, Resolve, DirectTo, Solicit, Finish}
 use Rattle.bsc_network.specs.declared.world_step.WorldStep.TheVariants.{Node as OfNode, Lose, Stop}

@@ -1,5 +1,6 @@
 -- Unicasts over a hub, from the Send to the delivery, by computation: to a node that has joined, to one that is taken over
 -- from, to one whose outbox is full, and under an address that another device has.
+-- No clause needs it: worked examples.
 use Rattle.std.proofs.Common.{◌≡◌, true, false, List, [], ◌∷◌, ◌++◌, Some, None, refl}
 use Rattle.bsc_network.specs.declared.target.Target.TheVariants.{Hub as ToHub}
 use Rattle.bsc_network.specs.declared.world_step.WorldStep.{WorldStep}

@@ -1,4 +1,5 @@
 -- A line that sends is no step of a link, nor is one that isn't read.
+-- It serves the clauses of `why_network_place`.
 use Rattle.std.proofs.Common.{◌≡◌, ◌∷◌, ℕ, List, [], codes, Option, Some, None, option_map, Result, Ok, Err, refl, ap, sym, subst, ◌∙◌}
 use Rattle.std.proofs.lemmas.Option.{none-some, same_Some as some-is}
 use Rattle.bsc_text.specs.Words.{words_of}

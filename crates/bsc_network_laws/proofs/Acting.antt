@@ -1,4 +1,5 @@
 -- What holds of each action of a node holds of all actions of an event.
+-- It serves clauses of functions of `laws`.
 use Rattle.std.proofs.Common.{◌≡◌, ◌⊎◌, inl, inr, ℕ, List, [], ◌∷◌, ◌++◌, Option, Some, None, refl}
 use Rattle.std.specs.Prelude.{filter_map, map}
 use Rattle.bsc_node.specs.declared.delivered.Delivered.{Delivered}
@@ -51,7 +52,8 @@ if_some : (k : ℕ) (by : Option Arrival) (Known : Action → Type 0) (R : World
 if_some k by Known R M None change w f = M.none w
 if_some k by Known R M (Some a) change w f = f a refl
 
-pub acts_one : (k : ℕ) (by : Option Arrival) (Known : Action → Type 0) (R : World → World → Type 0) → LetsActs k by Known R → (w : World) (action : Action) → Known action → R w (carries_out k by action w)
+pub acts_one : (k : ℕ) (by : Option Arrival) (Known : Action → Type 0) (R : World → World → Type 0) → LetsActs k by Known R → (w : World) (action : Action) → Known action
+    → R w (carries_out k by action w)
 acts_one k by Known R M w (Dial name uri) known = dials_by k by Known R M name uri (leads_to w uri) w known refl
 acts_one k by Known R M w (Take name) known = if_some k by Known R M by (takes_as k name) w (λ a is. M.each.takes w name a is known)
 acts_one k by Known R M w (Refuse closing) known = if_some k by Known R M by refuses w (λ a is. M.each.refuses_it w a is)
@@ -61,7 +63,8 @@ acts_one k by Known R M w (Deliver delivered) known = if_some k by Known R M by 
 acts_one k by Known R M w (Tell note) known = M.none w
 acts_one k by Known R M w Draw known = M.none w
 
-pub acts_each : (k : ℕ) (by : Option Arrival) (Known : Action → Type 0) (R : World → World → Type 0) → LetsActs k by Known R → (actions : List Action) (w : World) → ((action : Action) → Among action actions → Known action)
+pub acts_each : (k : ℕ) (by : Option Arrival) (Known : Action → Type 0) (R : World → World → Type 0) → LetsActs k by Known R → (actions : List Action) (w : World)
+    → ((action : Action) → Among action actions → Known action)
     → R w (in_order (map (carries_out k by) actions) w)
 acts_each k by Known R M [] w known = M.none w
 acts_each k by Known R M (action ∷ actions) w known =

@@ -1,4 +1,5 @@
 -- What was delivered in a network stays: a step adds to it and takes nothing away.
+-- It serves bsc_network_script_laws and bsc_world.
 use Rattle.std.proofs.Common.{◌≡◌, ℕ, zero, suc, ◌+◌, Bool, true, false, List, [], ◌∷◌, ◌++◌, length, map, drop, Option, Some, None, refl, ap, sym, ◌∙◌, append-nil, append_assoc}
 use Rattle.std.specs.Prelude.{⊤, if◌then◌else◌, filter_map, slice_get}
 use Rattle.std.proofs.lemmas.List.Sums.{fold-append}
@@ -40,7 +41,8 @@ use Rattle.bsc_network.specs.Worlds.{World, Hub, HubSide, Node, Link, history, t
 use Rattle.bsc_network.specs.Changes.{Change, unchanged, in_order, with_node, with_link, with_side, with_traffic, puts_at, puts_now, with_found, of_hub, of_node, of_link, by_target}
 use Rattle.bsc_network.specs.Outboxes.{Frame, frames}
 use Rattle.bsc_network.specs.HubCalls.{called, is_worn, reply_in}
-use Rattle.bsc_network.specs.HubSides.{of_side, leaves_as, leaves, closes, unless_over, step_at, told, carries_out as side_carries_out, tells, gets_reply, joins_by, connects, forwards, verdict_on, acts_on, hears as side_hears, receives}
+use Rattle.bsc_network.specs.HubSides.{of_side, leaves_as, leaves, closes, unless_over, step_at, told, carries_out as side_carries_out, tells, gets_reply, joins_by, connects}
+use Rattle.bsc_network.specs.HubSides.{forwards, verdict_on, acts_on, hears as side_hears, receives}
 use Rattle.bsc_network.specs.Taking.{takes_next, takes}
 use Rattle.bsc_network.specs.NodeSides.{hold_of, name_of, puts_on, puts_by}
 use Rattle.bsc_network.specs.Dialling.{leads_to, dials_to}
@@ -148,7 +150,8 @@ connects-grows l place who =
 forwards-grows : (l place : ℕ) (m : List ℕ) → GrowsBy (forwards l place m)
 forwards-grows l place m =
     at_side l (λ j h link. with_found link.side.conn (λ c. if is_worn h then closes l else called j l place (Forward c m)))
-    (λ j h link. found link.side.conn (λ c. if is_worn h then closes l else called j l place (Forward c m)) (λ c. chosen (is_worn h) (closes l) (called j l place (Forward c m)) (closes-grows l) (λ w. no_more w)))
+    (λ j h link. found link.side.conn (λ c. if is_worn h then closes l else called j l place (Forward c m))
+    (λ c. chosen (is_worn h) (closes l) (called j l place (Forward c m)) (closes-grows l) (λ w. no_more w)))
 
 acts_on-grows : (l place : ℕ) (m : List ℕ) (t : Step) → GrowsBy (acts_on l place m t)
 acts_on-grows l place m (Ask who) = connects-grows l place who
@@ -176,7 +179,8 @@ takes_next-grows l None None w = no_more w
 takes-grows : (l : ℕ) → GrowsBy (takes l)
 takes-grows l =
     at_side l (λ j h link. with_found link.side.conn (λ c. takes_next l (slice_get (frames h c) link.side.taken) (ended (history h) c)))
-    (λ j h link. found link.side.conn (λ c. takes_next l (slice_get (frames h c) link.side.taken) (ended (history h) c)) (λ c. takes_next-grows l (slice_get (frames h c) link.side.taken) (ended (history h) c)))
+    (λ j h link. found link.side.conn (λ c. takes_next l (slice_get (frames h c) link.side.taken) (ended (history h) c))
+    (λ c. takes_next-grows l (slice_get (frames h c) link.side.taken) (ended (history h) c)))
 
 -- ---- a node
 
@@ -247,7 +251,8 @@ reaches-grows l Up link x = at_target link.to (λ j. reaches_hub l x) (reaches_n
 arrives-grows : (l : ℕ) (way : Way) → GrowsBy (arrives l way)
 arrives-grows l way =
     at_link l (λ link. with_found (front (traffic way link)) (λ x. in_order (with_link l (with_traffic way without_front) ∷ reaches l way link x ∷ [])))
-    (λ link. found (front (traffic way link)) (λ x. in_order (with_link l (with_traffic way without_front) ∷ reaches l way link x ∷ [])) (λ x. two (with_link l (with_traffic way without_front)) (reaches l way link x) (λ w. no_more w) (reaches-grows l way link x)))
+    (λ link. found (front (traffic way link)) (λ x. in_order (with_link l (with_traffic way without_front) ∷ reaches l way link x ∷ []))
+    (λ x. two (with_link l (with_traffic way without_front)) (reaches l way link x) (λ w. no_more w) (reaches-grows l way link x)))
 
 loses-grows : (l : ℕ) (way : Way) (k : ℕ) → GrowsBy (loses l way k)
 loses-grows l way k =
@@ -256,8 +261,17 @@ loses-grows l way k =
 is_lost-grows : (l : ℕ) → GrowsBy (is_lost l)
 is_lost-grows l =
     at_link l (λ link. in_order (with_link l (λ it. record it { is_lost = true }) ∷ loses l Down link.from ∷ by_target link.to (λ j. unless_over l (leaves l)) (loses l Up) ∷ []))
-    (λ link. all_grow (with_link l (λ it. record it { is_lost = true }) ∷ loses l Down link.from ∷ by_target link.to (λ j. unless_over l (leaves l)) (loses l Up) ∷ [])
-    ((λ w. no_more w), (loses-grows l Down link.from, (at_target link.to (λ j. unless_over l (leaves l)) (loses l Up) (λ j. unless_over-grows l (leaves l) (leaves-grows l)) (λ k. loses-grows l Up k), tt))))
+    (λ link. all_grow (with_link l (λ it. record it { is_lost = true }) ∷ loses l Down link.from ∷ by_target link.to (λ j. unless_over l (leaves l)) (loses l Up) ∷ []) (
+      (λ w. no_more w),
+      (
+        loses-grows l Down link.from,
+        (
+          at_target link.to (λ j. unless_over l (leaves l)) (loses l Up) (λ j. unless_over-grows l (leaves l) (leaves-grows l))
+              (λ k. loses-grows l Up k),
+          tt,
+        ),
+      ),
+    ))
 
 -- ---- a step
 

@@ -1,4 +1,5 @@
 -- After each step the deliveries of each node are all that it has delivered by its log.
+-- It serves clauses of functions of `laws`.
 use Rattle.std.proofs.Common.{◌≡◌, ◌≢◌, ◌⊎◌, inl, inr, ℕ, true, false, Bool, List, [], ◌∷◌, ◌++◌, map, Option, Some, None, refl, ap, sym, subst, ◌∙◌, append_assoc, append-nil, if◌then◌else◌}
 use Rattle.std.specs.Prelude.{◌==◌, filter, filter_map, slice_get}
 use Rattle.std.specs.List.{cons_option}

@@ -1,4 +1,5 @@
 -- Where at most one action of an event passes a test: what holds up to that action, and what holds from then on.
+-- It serves clauses of functions of `laws`.
 use Rattle.std.proofs.Common.{◌≡◌, ◌<◌, ◌⊎◌, inl, inr, ℕ, Bool, true, false, cond, List, [], ◌∷◌, ◌++◌, Option, refl, ap, sym, subst, ◌∙◌}
 use Rattle.std.specs.Prelude.{◌^◌, IsTrue, if◌then◌else◌, filter, filter_map, map}
 use Rattle.std.specs.List.{list_any}
@@ -38,7 +39,8 @@ fails_among test actions none action among = by (test action) refl
     by true is = absurd (subst (Among action) none (among-filter test action actions is among))
 
 -- Where none passes, what each that doesn't pass keeps is kept.
-pub acts-none : (k : ℕ) (by : Option Arrival) (test : Action → Bool) (R : World → World → Type 0) → LetsActs k by (Fails test) R → (actions : List Action) (w : World) → filter test actions ≡ [] → R w (in_order (map (carries_out k by) actions) w)
+pub acts-none : (k : ℕ) (by : Option Arrival) (test : Action → Bool) (R : World → World → Type 0) → LetsActs k by (Fails test) R → (actions : List Action) (w : World)
+    → filter test actions ≡ [] → R w (in_order (map (carries_out k by) actions) w)
 acts-none k by test R M actions w none = acts_each k by (Fails test) R M actions w (fails_among test actions none)
 
 same_head : {A : Type 0} (x y : A) (xs ys : List A) → x ∷ xs ≡ y ∷ ys → x ≡ y
@@ -48,12 +50,14 @@ same_tail : {A : Type 0} (x y : A) (xs ys : List A) → x ∷ xs ≡ y ∷ ys �
 same_tail x y xs ys h = cc
 
 -- Where one passes, and leads from P to Q, which those that don't pass keep.
-pub acts-once : (k : ℕ) (by : Option Arrival) (test : Action → Bool) (P Q : World → Type 0) → LetsActs k by (Fails test) (Keeps P) → LetsActs k by (Fails test) (Keeps Q) → (x : Action) → ((w : World) → P w → Q (carries_out k by x w))
+pub acts-once : (k : ℕ) (by : Option Arrival) (test : Action → Bool) (P Q : World → Type 0) → LetsActs k by (Fails test) (Keeps P) → LetsActs k by (Fails test) (Keeps Q) → (x : Action)
+    → ((w : World) → P w → Q (carries_out k by x w))
     → (actions : List Action) (w : World) → filter test actions ≡ x ∷ [] → P w → Q (in_order (map (carries_out k by) actions) w)
 acts-once k by test P Q MP MQ x leads [] w is p = cc
 acts-once k by test P Q MP MQ x leads (action ∷ actions) w is p = at (λ later p. acts-once k by test P Q MP MQ x leads actions (carries_out k by action w) later p) (test action) refl is
   where
-    at : (filter test actions ≡ x ∷ [] → P (carries_out k by action w) → Q (in_order (map (carries_out k by) actions) (carries_out k by action w))) → (b : Bool) → test action ≡ b → cond b (action ∷ filter test actions) (filter test actions) ≡ x ∷ [] → Q (in_order (map (carries_out k by) actions) (carries_out k by action w))
+    at : (filter test actions ≡ x ∷ [] → P (carries_out k by action w) → Q (in_order (map (carries_out k by) actions) (carries_out k by action w))) → (b : Bool) → test action ≡ b
+        → cond b (action ∷ filter test actions) (filter test actions) ≡ x ∷ [] → Q (in_order (map (carries_out k by) actions) (carries_out k by action w))
     at goes false fails later = goes later (acts_one k by (Fails test) (Keeps P) MP w action fails p)
     at goes true passes here =
         acts-none k by test (Keeps Q) MQ actions (carries_out k by action w) (same_tail action x (filter test actions) [] here)
@@ -70,7 +74,8 @@ first_of test Of xs ys (inl none) more = inl (filter-append test xs ys ∙ ap (�
 first_of test Of xs ys (inr (x, is, of)) more = inr (x, filter-append test xs ys ∙ ap (λ zs. zs ++ filter test ys) is ∙ ap (λ zs. x ∷ zs) more, of)
 
 -- What holds of each event that may come, and of none that brings no word, holds of an event of a step with its answer.
-pub at_most-one : (test : Action → Bool) (Of : Made → Log → TimedEvent → Action → Type 0) (T : ℕ) (a : Made) (L : Log) (e : NodeEvent) → T < 2 ^ 62 → Timely T L → brings_word e ≡ false → fits L e ≡ true
+pub at_most-one : (test : Action → Bool) (Of : Made → Log → TimedEvent → Action → Type 0) (T : ℕ) (a : Made) (L : Log) (e : NodeEvent) → T < 2 ^ 62 → Timely T L → brings_word e ≡ false
+    → fits L e ≡ true
     → ((M : Log) (x : TimedEvent) → IsTrue (may_come M x) → AtMostOne test (Of a M x) (actions_at a M x))
     → ((M : Log) (x : TimedEvent) (action : Action) → x.event ≡ NoRandom → Of a M x action → ⊥)
     → AtMostOne test (Of a L (record { now = T; event = e })) (filter_map action_of (brings_about a (record { now = T; event = e }) L))
@@ -88,7 +93,8 @@ at_most-one test Of T a L e below timely word fit law never = by (list_any draws
     nothing_then : (M : Log) → IsTrue (may_come M none) → filter test (actions_at a M none) ≡ []
     nothing_then M then_may = elim (law M none then_may) [ inl h ↦ h | inr h ↦ absurd (never M none h.0 refl h.2) ]
 
-    by : (b : Bool) → list_any draws (actions_at a L event) ≡ b → AtMostOne test (Of a L event) (filter_map action_of (rules_in_order (map (goes_on a) (if b then event ∷ none ∷ [] else event ∷ [])) L))
+    by : (b : Bool) → list_any draws (actions_at a L event) ≡ b → AtMostOne test (Of a L event)
+        (filter_map action_of (rules_in_order (map (goes_on a) (if b then event ∷ none ∷ [] else event ∷ [])) L))
     by false drawn = subst (AtMostOne test (Of a L event)) (sym (actions-one a event L)) (law L event may)
     by true drawn =
         let M = L ++ goes_on a event L in

@@ -1,5 +1,6 @@
 -- The moves of a step that began with some network: what is known besides where an event comes first, and where a message is
 -- passed on.
+-- It serves clauses of functions of `laws`.
 use Rattle.std.proofs.Common.{◌≡◌, ℕ, true, false, List, Option, Some, None}
 use Rattle.std.specs.Prelude.{◌+◌, slice_get}
 use Rattle.bsc_octets.specs.declared.identity.Identity.{Identity}

@@ -1,4 +1,5 @@
 -- How what is kept by moves is put together: two things that each move keeps, and one that it keeps where another holds.
+-- It serves clauses of functions of `laws`.
 use Rattle.std.proofs.Common.{ℕ, Option}
 use Rattle.std.specs.Prelude.{filter_map, ⊤}
 use Rattle.bsc_node.specs.declared.timed_event.TimedEvent.{TimedEvent}
@@ -107,7 +108,10 @@ together D P Inv M N = record {
     leaves = λ w l j h k c side conn p. (M.each.leaves w l j h k c side conn p.0, N.leaves w l j h k c side conn p.0 p.1);
     stops = λ w j h here is p. (M.each.stops w j h here is p.0, N.stops w j h here is p.0 p.1);
     asks = λ w l j place h k m who side came said is p. (M.each.asks w l j place h k m who side came said is p.0, N.asks w l j place h k m who side came said is p.0 p.1);
-    joins = λ w l j place h k m who c replaced side came said is p. (M.each.joins w l j place h k m who c replaced side came said is p.0, N.joins w l j place h k m who c replaced side came said is p.0 p.1);
+    joins = λ w l j place h k m who c replaced side came said is p. (
+      M.each.joins w l j place h k m who c replaced side came said is p.0,
+      N.joins w l j place h k m who c replaced side came said is p.0 p.1,
+    );
     forwards = λ w l j place h k m c side conn came said p. (M.each.forwards w l j place h k m c side conn came said p.0, N.forwards w l j place h k m c side conn came said p.0 p.1);
     takes = λ w l j h k c f side conn is p. (M.each.takes w l j h k c f side conn is p.0, N.takes w l j h k c f side conn is p.0 p.1);
     hears = λ w k n by e here come fit p. (M.each.hears w k n by e here come fit p.0, N.hears w k n by e here come fit p.0 p.1);
@@ -134,7 +138,8 @@ acts-both k by Known R Q M N = record {
   };
 }
 
-pub acts-beside : (k : ℕ) (by : Option Arrival) (Known : Action → Type 0) (P Inv : World → Type 0) → LetsActs k by (λ action. ⊤) (Keeps P) → EachAct k by Known (KeepsGiven P Inv) → LetsActs k by Known (KeepsBoth P Inv)
+pub acts-beside : (k : ℕ) (by : Option Arrival) (Known : Action → Type 0) (P Inv : World → Type 0) → LetsActs k by (λ action. ⊤) (Keeps P) → EachAct k by Known (KeepsGiven P Inv)
+    → LetsActs k by Known (KeepsBoth P Inv)
 acts-beside k by Known P Inv M N = record {
   none = λ w p. (p, λ i. i);
   then = λ u v w f g p. let a = f p in let b = g a.0 in (b.0, λ i. b.1 (a.1 i));
@@ -149,7 +154,8 @@ acts-beside k by Known P Inv M N = record {
   };
 }
 
-pub acts-together : (k : ℕ) (by : Option Arrival) (Known : Action → Type 0) (P Inv : World → Type 0) → LetsActs k by Known (Keeps P) → EachAct k by Known (KeepsGiven P Inv) → LetsActs k by Known (Keeps (λ u. P u × Inv u))
+pub acts-together : (k : ℕ) (by : Option Arrival) (Known : Action → Type 0) (P Inv : World → Type 0) → LetsActs k by Known (Keeps P) → EachAct k by Known (KeepsGiven P Inv)
+    → LetsActs k by Known (Keeps (λ u. P u × Inv u))
 acts-together k by Known P Inv M N = record {
   none = λ w p. p;
   then = λ u v w f g p. g (f p);

@@ -1,4 +1,5 @@
 -- What a node delivers that came from a hub came from the Send at its place; so each delivery has its source.
+-- It serves clauses of functions of `laws`.
 use Rattle.std.proofs.Common.{◌≡◌, inl, ℕ, true, List, [], ◌∷◌, ◌++◌, Option, Some, refl, ap, sym, subst, ◌∙◌}
 use Rattle.std.specs.Prelude.{length, slice_get}
 use Rattle.std.specs.List.{AllByRecursion}
@@ -94,14 +95,16 @@ pub record KnowsHubs (cast : Cast) (S : Sendings) (T place : ℕ) (w : World) : 
 from_has_joined : (S : Sendings) (w : World) (posted : List Posted) (to : Connection) (f : Frame) (p : IsPassedOn S w posted to f) → In p.from (joined (entries posted))
 from_has_joined S w posted to f p =
     let G = entries p.before in
-    let in_joined : In p.from (joined (G ++ entries (p.forward ∷ p.later))) = joined_longer G (entries (p.forward ∷ p.later)) p.from (joined_in _ G p.from (found_in p.from.number (live G) p.from p.sender_live).0) in
+    let in_joined : In p.from (joined (G ++ entries (p.forward ∷ p.later))) =
+    joined_longer G (entries (p.forward ∷ p.later)) p.from (joined_in _ G p.from (found_in p.from.number (live G) p.from p.sender_live).0) in
     subst (λ H. In p.from (joined H)) (sym (ap entries p.split ∙ map-append (λ (x : Posted). x.entry) p.before (p.forward ∷ p.later))) in_joined
 
 hub_puts_down : (way : Way) (link : Link) (j : ℕ) → putter way link ≡ ToHub j → way ≡ Down
 hub_puts_down Up link j h = cc
 hub_puts_down Down link j h = refl
 
-hubs_part : (cast : Cast) → IsFit cast → (S : Sendings) → AreWhole S → (T place : ℕ) (w : World) (k : ℕ) (n : Node) (by : Option Arrival) (e : NodeEvent) → KnowsHubs cast S T place w → HubsPart S w k n by e
+hubs_part : (cast : Cast) → IsFit cast → (S : Sendings) → AreWhole S → (T place : ℕ) (w : World) (k : ℕ) (n : Node) (by : Option Arrival) (e : NodeEvent) → KnowsHubs cast S T place w
+    → HubsPart S w k n by e
 hubs_part cast fit S whole T place w k n by e known name o c j msg npdu v comes puts passed body from = (
   p.2.sender,
   p.2.dest,
@@ -153,9 +156,11 @@ hubs_part cast fit S whole T place w k n by e known name o c j msg npdu v comes 
 
     so : IsDeliveredSo p.2.from.who.vmac p.2.dest p.2.npdu (delivery msg npdu v)
     so =
-        passed_so name msg (with_heard n.made n.log (at_once w.now e) name o) (place_at n.made (with_event n.log (at_once w.now e)) name) n.made.own.max_bvlc p.2.id p.2.from.who.vmac p.2.dest p.2.npdu npdu v p.2.small six
+        passed_so name msg (with_heard n.made n.log (at_once w.now e) name o) (place_at n.made
+        (with_event n.log (at_once w.now e)) name) n.made.own.max_bvlc p.2.id p.2.from.who.vmac p.2.dest p.2.npdu npdu v p.2.small six
         (whole a.sent_at p.2.sender p.2.dest p.2.npdu p.2.sends)
-        (subst (λ m. outcome_of m (place_at n.made (with_event n.log (at_once w.now e)) name) n.made.own.max_bvlc ≡ Pass msg) (p.2.octets ∙ ap (λ m. out m p.2.from.who.vmac) p.2.carried) passed) body from
+        (subst (λ m. outcome_of m (place_at n.made (with_event n.log (at_once w.now e)) name) n.made.own.max_bvlc ≡ Pass msg)
+        (p.2.octets ∙ ap (λ m. out m p.2.from.who.vmac) p.2.carried) passed) body from
 
 -- ---- what is known
 
@@ -186,11 +191,13 @@ knows_ended : (cast : Cast) → IsFit cast → MadeWell cast → (S : Sendings) 
 knows_ended cast fit made S T place D sends =
     keeps_as D (λ u. ((KnowsEnds cast T place u × AllDirect S cast u) × Inv cast u) × HubsThere u) (KnowsEnded cast S T place) (λ w p. (p.0.0, (p.1, p.0.1))) (λ w p. ((p.0, p.1.1), p.1.0))
     (keeps_both D (λ u. (KnowsEnds cast T place u × AllDirect S cast u) × Inv cast u) HubsThere
-    (together D (λ u. KnowsEnds cast T place u × AllDirect S cast u) (Inv cast) (together D (KnowsEnds cast T place) (AllDirect S cast) (knows_ends cast made T place D) (direct_stays S cast made T place D sends))
+    (together D (λ u. KnowsEnds cast T place u × AllDirect S cast u) (Inv cast)
+    (together D (KnowsEnds cast T place) (AllDirect S cast) (knows_ends cast made T place D) (direct_stays S cast made T place D sends))
     (each-as D (KeepsGiven (KnowsNames cast T place) (Inv cast)) (KeepsGiven (λ u. KnowsEnds cast T place u × AllDirect S cast u) (Inv cast)) (λ u v f q. f q.0.0) (diallers_stay cast fit T place D)))
     (There.lets D))
 
-pub knows_sources : (cast : Cast) → IsFit cast → MadeWell cast → (S : Sendings) (T place : ℕ) (D : WorldStep) → IsCounted S place D → LetsWhole D (Keeps (KnowsSources S cast T place (KnowsHubs cast S T place)))
+pub knows_sources : (cast : Cast) → IsFit cast → MadeWell cast → (S : Sendings) (T place : ℕ) (D : WorldStep) → IsCounted S place D
+    → LetsWhole D (Keeps (KnowsSources S cast T place (KnowsHubs cast S T place)))
 knows_sources cast fit made S T place D sends =
     whole_as D (λ u. KnowsEnded cast S T place u × (KnowsHistories cast S T place u × PassesOn S u)) (KnowsSources S cast T place (KnowsHubs cast S T place))
     (λ w p. (p.0.0.0, p.0.0.1, record { histories = p.1.0; passes = p.1.1; there = p.0.1.0; diallers = p.0.1.1 }))

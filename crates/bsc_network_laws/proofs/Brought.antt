@@ -1,5 +1,6 @@
 -- What an event of a step brings about at a node: who is the peer of a direct connection then, which links begin, and by which link
 -- an NPDU goes.
+-- It serves clauses of functions of `laws`.
 use Rattle.std.proofs.Common.{◌≡◌, ◌<◌, ◌⊎◌, inl, inr, ℕ, Bool, true, false, ◌||◌, List, [], ◌∷◌, ◌++◌, Option, Some, refl, ap, sym, subst, ◌∙◌, append_assoc}
 use Rattle.std.specs.Prelude.{◌^◌, IsTrue, if◌then◌else◌, filter_map, map, unwrap_or, ⊤}
 use Rattle.std.specs.List.{AllByRecursion, list_any}

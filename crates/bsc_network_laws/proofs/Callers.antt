@@ -1,4 +1,5 @@
 -- After each step, a connection of a hub joined by a link that leads to this hub, whose side has that connection.
+-- It serves clauses of functions of `laws`.
 use Rattle.std.proofs.Common.{◌≡◌, ◌⊎◌, inl, inr, ℕ, zero, suc, true, false, List, [], ◌∷◌, ◌++◌, Option, Some, None, option_to_list, refl, ap, sym, subst, ◌∙◌}
 use Rattle.std.specs.Prelude.{◌+◌, slice_get, ⊤}
 use Rattle.std.specs.List.{AllByRecursion}
@@ -76,7 +77,8 @@ lasts-changed (suc i) f (y ∷ xs) keeps (suc l) k h = lasts-changed i f xs keep
 by-same : (u v : World) → v.hubs ≡ u.hubs → Lasts u.links v.links → Keeps JoinByLinks u v
 by-same u v hubs lasts all j h at =
     all-mapped (IsOfLink u j) (IsOfLink v j)
-    (λ c of. let there = lasts c.caller of.0 of.1 in (there.0, there.1, there.2.0 ∙ of.2, there.2.1 c.number of.3)) (joined (history h)) (all j h (ap (λ (hs : List Hub). slice_get hs j) (sym hubs) ∙ at))
+    (λ c of. let there = lasts c.caller of.0 of.1 in (there.0, there.1, there.2.0 ∙ of.2, there.2.1 c.number of.3)) (joined (history h))
+    (all j h (ap (λ (hs : List Hub). slice_get hs j) (sym hubs) ∙ at))
 
 -- a change of neither hubs nor links
 pub by-still : (u v : World) → v.hubs ≡ u.hubs → v.links ≡ u.links → Keeps JoinByLinks u v
@@ -109,7 +111,8 @@ by-puts_by w k name content = at_node (node_at w k)
 pub history-called : (w : World) (caller place : ℕ) (call : Call) (h : Hub) → history (with_call w caller place call h) ≡ history h ++ entry_in w h caller call ∷ []
 history-called w caller place call h = map-append (λ (p : Posted). p.entry) h.posted (record { entry = entry_in w h caller call; sent_at = place } ∷ [])
 
-pub joined-called : (w : World) (caller place : ℕ) (call : Call) (h : Hub) → joined (history (with_call w caller place call h)) ≡ joined (history h) ++ option_to_list (connection_of (entry_in w h caller call))
+pub joined-called : (w : World) (caller place : ℕ) (call : Call) (h : Hub)
+    → joined (history (with_call w caller place call h)) ≡ joined (history h) ++ option_to_list (connection_of (entry_in w h caller call))
 joined-called w caller place call h = ap joined (history-called w caller place call h) ∙ More.joined-more (history h) (entry_in w h caller call)
 
 -- a call is made, by which nobody joins but with a link in the network that is there then
@@ -130,7 +133,8 @@ by-called w v j caller place call hubs lasts one all i g at = by (got-changed j 
         (all-joined (IsOfLink v i) (joined (history x)) (option_to_list (connection_of (entry_in w x caller call))) (stays x here)
         (subst (λ n. AllByRecursion (IsOfLink v n) (option_to_list (connection_of (entry_in w x caller call)))) same (one x (ap (slice_get w.hubs) same ∙ here)))))
 
-by-call : (w : World) (j caller place : ℕ) (call : Call) → ((h : Hub) → hub_at w j ≡ Some h → AllByRecursion (IsOfLink (called j caller place call w) j) (option_to_list (connection_of (entry_in w h caller call))))
+by-call : (w : World) (j caller place : ℕ) (call : Call) → ((h : Hub) → hub_at w j ≡ Some h
+    → AllByRecursion (IsOfLink (called j caller place call w) j) (option_to_list (connection_of (entry_in w h caller call))))
     → Keeps JoinByLinks w (called j caller place call w)
 by-call w j caller place call = by-called w (called j caller place call w) j caller place call refl (lasts-none w.links)
 
@@ -149,7 +153,8 @@ at_twice i f g [] x h = cc
 at_twice zero f g (y ∷ xs) x h = ap (λ z. Some (g (f z))) (some_same y x h)
 at_twice (suc i) f g (y ∷ xs) x h = at_twice i f g xs x h
 
-by-joins : (w : World) (l j place : ℕ) (h : Hub) (k : Link) (m : List ℕ) (who : Identity) (c : ℕ) (replaced : Option ℕ) → IsSide w l j h k → IsSaid h k m (Ask who) → reply_in w h (Connect who) ≡ Joined c replaced
+by-joins : (w : World) (l j place : ℕ) (h : Hub) (k : Link) (m : List ℕ) (who : Identity) (c : ℕ) (replaced : Option ℕ) → IsSide w l j h k → IsSaid h k m (Ask who)
+    → reply_in w h (Connect who) ≡ Joined c replaced
     → SidesFit w → Keeps JoinByLinks w (told l HasJoined (with_side l (λ s. record s { conn = Some c }) (called j l place (Connect who) w)))
 by-joins w l j place h k m who c replaced side said is fit =
     by-called w v j l place (Connect who) refl lasts (λ g here.
@@ -174,12 +179,18 @@ by-joins w l j place h k m who c replaced side said is fit =
     then_lasts = lasts-changed l (λ link. record link { side = record link.side { conn = Some c } }) w.links (λ x here. (refl, new x here))
 
     lasts : Lasts w.links v.links
-    lasts = lasts-then w.links first v.links then_lasts (lasts-changed l (λ link. record link { side = record link.side { events = link.side.events ++ HasJoined ∷ [] } }) first (λ x here. (refl, λ d has. has)))
+    lasts = lasts-then w.links first v.links then_lasts (lasts-changed l (λ link. record link { side = record link.side { events = link.side.events ++ HasJoined ∷ [] } }) first
+        (λ x here. (refl, λ d has. has)))
 
     of_link : IsOfLink v j (record { number = c; caller = l; who = who })
     of_link =
-        let changed : Link = record k { side = record k.side { conn = Some c; events = k.side.events ++ HasJoined ∷ [] } } in
-        (changed, at_twice l (λ link. record link { side = record link.side { conn = Some c } }) (λ link. record link { side = record link.side { events = link.side.events ++ HasJoined ∷ [] } }) w.links k side.link, side.leads, refl)
+        let changed : Link = record k { side = record k.side { conn = Some c; events = k.side.events ++ HasJoined ∷ [] } } in (
+          changed,
+          at_twice l (λ link. record link { side = record link.side { conn = Some c } })
+              (λ link. record link { side = record link.side { events = link.side.events ++ HasJoined ∷ [] } }) w.links k side.link,
+          side.leads,
+          refl,
+        )
 
 -- ---- the moves
 
@@ -210,11 +221,13 @@ join_by_links T place D = record {
   stops = λ w j h here is m. by-call w j no_link w.steps StopCall (λ g at. tt);
   asks = λ w l j p h k o who side arrival said is m.
       by-call w j l p (Connect who)
-      (λ g here. none_made (IsOfLink (called j l p (Connect who) w) j) l who (reply_in w g (Connect who)) (ap (λ (x : Hub). says_joined (reply_in w x (Connect who))) (some_same g h (sym here ∙ side.hub)) ∙ is));
+      (λ g here. none_made (IsOfLink (called j l p (Connect who) w) j) l who (reply_in w g (Connect who))
+      (ap (λ (x : Hub). says_joined (reply_in w x (Connect who))) (some_same g h (sym here ∙ side.hub)) ∙ is));
   joins = λ w l j p h k o who c replaced side arrival said is m. by-joins w l j p h k o who c replaced side said is m.sides;
   forwards = λ w l j p h k o c side conn arrival said m. by-call w j l p (Forward c o) (λ g here. tt);
   takes = λ w l j h k c f side conn is m all. by-way (with_side l (λ x. record x { taken = x.taken + 1 }) w) l Down _ (by-side w l (λ x. record x { taken = x.taken + 1 }) (λ s. refl) all);
-  hears = λ w k n by e here come fit m. lets-hears k by (λ action. ⊤) (Keeps JoinByLinks) (lets_acts k by) (record { now = w.now; event = e }) n w (by-still w (goes_on_in k (record { now = w.now; event = e }) w) refl refl) (λ action among. tt);
+  hears = λ w k n by e here come fit m. lets-hears k by (λ action. ⊤) (Keeps JoinByLinks) (lets_acts k by) (record { now = w.now; event = e }) n w
+      (by-still w (goes_on_in k (record { now = w.now; event = e }) w) refl refl) (λ action among. tt);
   forgets = λ w later m. by-still w (forgets_failure later w) refl refl;
   arrives = λ w l way k x here is m. by-way w l way _;
   loses = λ w l m. by-link w l (λ link. record link { is_lost = true }) (λ x. (refl, λ c is. is));

@@ -1,5 +1,6 @@
 -- What is delivered of a message that came from a node over a direct connection came over it from the Send at its place, between slots
 -- that were up with each other; and that stays so.
+-- It serves clauses of functions of `laws`.
 use Rattle.std.proofs.Common.{◌≡◌, ℕ, Bool, true, false, List, ◌∷◌, ◌++◌, Option, Some, None, refl, ap, sym, subst, ◌∙◌}
 use Rattle.std.specs.Prelude.{IsTrue, filter_map}
 use Rattle.std.specs.Option.{option_map}
@@ -73,7 +74,8 @@ pub record CameFrom (S : Sendings) (cast : Cast) (w : World) (k : ℕ) (n : Node
   pub law : UpLaw
 
 -- Once the node's log has gone on, a delivery of it is from the Send at its place, and came directly.
-pub came_directly : (S : Sendings) (cast : Cast) (w : World) (k : ℕ) (n : Node) (by : Option Arrival) (e : NodeEvent) (name : LinkName) (o : List ℕ) (other : ℕ) (c : CameFrom S cast w k n by e name o other) (msg : Message) (npdu : List ℕ) (v : Vmac)
+pub came_directly : (S : Sendings) (cast : Cast) (w : World) (k : ℕ) (n : Node) (by : Option Arrival) (e : NodeEvent) (name : LinkName) (o : List ℕ) (other : ℕ)
+    (c : CameFrom S cast w k n by e name o other) (msg : Message) (npdu : List ℕ) (v : Vmac)
     → verdict n.made (with_event n.log (at_once w.now e)) name o ≡ Pass msg → msg.body ≡ Npdu npdu → sender name msg (with_heard n.made n.log (at_once w.now e) name o) ≡ Some v
     → (dest : Vmac) × S c.over.arrival.sent_at other dest npdu
     × CameDirectly (goes_on_in k (at_once w.now e) w) other dest (record { sent_at = c.over.arrival.sent_at; node = k; delivered = delivery msg npdu v })
@@ -156,10 +158,12 @@ came_directly S cast w k n by e name o other c msg npdu v passed body from = (
     -- What it knows of its slot: the peer is the sender, whose address it delivers, and the slot had come up with it.
     known : (link : LinkName) → name ≡ link → (s.from.made.own.vmac ≡ v) × HeardOver (longer n) o a.link a.way s.from.made.own
     known (HubName side) is =
-        let l = all-found (LeadsToHub w) (λ (g : Hold). same_link g.name name) _ c.over.held (all-reversed (LeadsToHub w) n.holds (c.ends.hubs k n c.here)) c.over.holds side (held-name name n c.over.held c.over.holds ∙ is) in
+        let l = all-found (LeadsToHub w) (λ (g : Hold). same_link g.name name) _ c.over.held (all-reversed (LeadsToHub w) n.holds (c.ends.hubs k n c.here)) c.over.holds side
+        (held-name name n c.over.held c.over.holds ∙ is) in
         absurd (is_hub (other_end w (Some c.over.held)) l.0 (sym (ap (other_end w) c.over.holds) ∙ end) l.1)
     known (Direct slot) is =
-        let p = sender-was_peer n.made n.log event stays.knit.settled c.may slot o msg v (c.came ∙ ap (λ (link : LinkName). Came link o) is) (ap (λ (link : LinkName). verdict n.made (with_event n.log event) link o) (sym is) ∙ passed)
+        let p = sender-was_peer n.made n.log event stays.knit.settled c.may slot o msg v (c.came ∙ ap (λ (link : LinkName). Came link o) is)
+        (ap (λ (link : LinkName). verdict n.made (with_event n.log event) link o) (sym is) ∙ passed)
         (ap named_by body) (ap (λ (m : Message). m.origin) said) (ap (λ (link : LinkName). sender link msg (with_heard n.made n.log event link o)) (sym is) ∙ from) in
         let there = c.ends.peers k n slot p.0 c.here p.1 in
         let who : s.from.made.own ≡ p.0 =

@@ -1,4 +1,5 @@
 -- The laws on what comes down from hubs, on what nodes put, on who names itself, and on who is connected.
+-- It serves clauses of functions of `laws`.
 use Rattle.bsc_network.specs.Worlds.{Node}
 use Rattle.std.proofs.Common.{List, Option, ap, ◌∙◌}
 use Rattle.std.specs.List.{AllByRecursion}
@@ -70,5 +71,6 @@ deliveries_are_all added steps k n course here = (runs added steps course).2.eve
 pub each_from_its_send : UpLaw → (added : List Added) (steps : List TimedStep) → IsCourse added steps
     → AllByRecursion (IsFromItsSend steps (world added steps)) (deliveries added steps)
 each_from_its_send law added steps course =
-    all-mapped (IsFrom (Sends steps) (world added steps)) (IsFromItsSend steps (world added steps)) (λ d from. record { sender = from.0; dest = from.1; sends = from.2; came = from.3 }) (deliveries added steps)
+    all-mapped (IsFrom (Sends steps) (world added steps)) (IsFromItsSend steps (world added steps)) (λ d from. record { sender = from.0; dest = from.1; sends = from.2; came = from.3 })
+    (deliveries added steps)
     ((runs added steps course).2.from law (sends_whole steps course.made_all))

@@ -1,4 +1,5 @@
 -- Who takes part in a network stays the same, and its nodes stay knit, under the VMACs with which they were made.
+-- It serves clauses of functions of `laws`.
 use Rattle.std.proofs.Common.{◌≡◌, ◌<◌, ℕ, zero, suc, true, List, [], ◌∷◌, ◌++◌, Option, Some, None, refl, ap, sym, subst, ◌∙◌}
 use Rattle.std.specs.Prelude.{◌^◌, map, filter_map, slice_get, ⊤}
 use Rattle.std.specs.Option.{option_map}
@@ -95,7 +96,8 @@ casts-holds cast k h w c = record {
 pub stays-on : (a : Made) (T : ℕ) (e : NodeEvent) (M : Log) (x : TimedEvent) → IsOf T e M x → Stays a M → Stays a (M ++ goes_on a x M)
 stays-on a T e M x of s = record { knit = knit-goes_on a M x s.knit of.may; reached = reached-goes_on a M x s.reached of.may; vmac = vmac-goes_on a M x of.may of.wordless ∙ s.vmac }
 
-pub casts-log : (cast : Cast) (T place : ℕ) (D : WorldStep) (k : ℕ) (n : Node) (by : Option Arrival) (e : NodeEvent) (w : World) → node_at w k ≡ Some n → Comes D w k n by e → fits n.log e ≡ true → Knows T place w
+pub casts-log : (cast : Cast) (T place : ℕ) (D : WorldStep) (k : ℕ) (n : Node) (by : Option Arrival) (e : NodeEvent) (w : World) → node_at w k ≡ Some n → Comes D w k n by e
+    → fits n.log e ≡ true → Knows T place w
     → Casts cast w → Casts cast (goes_on_in k (record { now = w.now; event = e }) w)
 casts-log cast T place D k n by e w here come fit known c = record {
   hubs = c.hubs;
@@ -161,20 +163,24 @@ knows_all cast T place D = together D (Knows T place) (Casts cast) (knows T plac
 abbrev pub AmidAll : World → Cast → ℕ → ℕ → World → Type 0
 AmidAll before cast T place u = Amid before T place u × Casts cast u
 
-pub amid_all : (cast : Cast) (T place : ℕ) (D : WorldStep) (k : ℕ) (w : World) (n : Node) (by : Option Arrival) (e : NodeEvent) → Comes D w k n by e → LetsActs k by (λ action. ⊤) (Keeps (AmidAll w cast T place))
+pub amid_all : (cast : Cast) (T place : ℕ) (D : WorldStep) (k : ℕ) (w : World) (n : Node) (by : Option Arrival) (e : NodeEvent) → Comes D w k n by e
+    → LetsActs k by (λ action. ⊤) (Keeps (AmidAll w cast T place))
 amid_all cast T place D k w n by e come = acts-together k by (λ action. ⊤) (Amid w T place) (Casts cast) (amid T place D k w n by e come) (each_act cast T place k w by)
 
 -- An event that comes to a node keeps what its actions keep where all this is known.
-pub hears-all : (cast : Cast) (T place : ℕ) (D : WorldStep) (k : ℕ) (w : World) (n : Node) (by : Option Arrival) (e : NodeEvent) (Of : Action → Type 0) (Inv : World → Type 0) → node_at w k ≡ Some n → Comes D w k n by e → fits n.log e ≡ true
+pub hears-all : (cast : Cast) (T place : ℕ) (D : WorldStep) (k : ℕ) (w : World) (n : Node) (by : Option Arrival) (e : NodeEvent) (Of : Action → Type 0) (Inv : World → Type 0)
+    → node_at w k ≡ Some n → Comes D w k n by e → fits n.log e ≡ true
     → EachAct k by Of (KeepsGiven (AmidAll w cast T place) Inv) → KnowsAll cast T place w → (Inv w → Inv (goes_on_in k (record { now = w.now; event = e }) w))
-    → ((action : Action) → Among action (filter_map action_of (brings_about n.made (record { now = w.now; event = e }) n.log)) → Of action) → Inv w → Inv (hears k by (record { now = w.now; event = e }) n w)
+    → ((action : Action) → Among action (filter_map action_of (brings_about n.made (record { now = w.now; event = e }) n.log)) → Of action) → Inv w
+    → Inv (hears k by (record { now = w.now; event = e }) n w)
 hears-all cast T place D k w n by e Of Inv here come fit N known goes of =
     hears-beside k by Of (AmidAll w cast T place) Inv (amid_all cast T place D k w n by e come) N (record { now = w.now; event = e }) n w
     (amid-first T place w known.0, known.1)
     (amid-log T place D k n by e w here come fit known.0, casts-log cast T place D k n by e w here come fit known.0 known.1) goes of
 
 -- What each move keeps where all this is known, a step keeps.
-pub kept-all : (cast : Cast) (Inv : World → Type 0) (t : TimedStep) (place : ℕ) → Each t.step (KeepsGiven (KnowsAll cast t.now place) Inv) → (w : World) → KnowsAll cast t.now place (begun w t) → Inv (begun w t) → Inv (done w t)
+pub kept-all : (cast : Cast) (Inv : World → Type 0) (t : TimedStep) (place : ℕ) → Each t.step (KeepsGiven (KnowsAll cast t.now place) Inv) → (w : World)
+    → KnowsAll cast t.now place (begun w t) → Inv (begun w t) → Inv (done w t)
 kept-all cast Inv t place N w known = (lets-step (KeepsBoth (KnowsAll cast t.now place) Inv) t (beside t.step (KnowsAll cast t.now place) Inv (knows_all cast t.now place t.step) N) w known).1
 
 -- Who takes part stays the same over a step.

@@ -1,5 +1,6 @@
 -- To each node each NPDU comes once: two that stand on ways by which one node hears, and have one place, stand at one index of one
 -- way. That follows from what holds after each step, and from the hubs' histories being legal.
+-- It serves the clauses of `networks_deliver_what_was_sent` and `none_is_delivered_twice`.
 use Rattle.std.proofs.Common.{◌≡◌, ◌≢◌, ◌⊎◌, ◌≤◌, inl, inr, ℕ, suc, ◌==◌, true, List, [], ◌∷◌, ◌++◌, Option, Some, None, is_none, option_to_list, refl, ap, sym, subst, ◌∙◌, arith}
 use Rattle.std.specs.Prelude.{◌+◌, length, filter, take}
 use Rattle.std.specs.List.{AllByRecursion, range_with_len}
@@ -73,8 +74,11 @@ numbers-from s (x ∷ xs) h =
 
 numbers-apart : (s : ℕ) (xs : List Connection) → numbers xs ≡ range_with_len s (length xs) → Apart (λ (y : Connection). y.number) xs
 numbers-apart s [] h = tt
-numbers-apart s (x ∷ xs) h =
-    (all-mapped (λ (y : Connection). s + 1 ≤ y.number) (λ (y : Connection). x.number ≢ y.number) (λ y more same. absurd (differs x y (head h) more same)) xs (numbers-from (s + 1) xs (tail h)), numbers-apart (s + 1) xs (tail h))
+numbers-apart s (x ∷ xs) h = (
+  all-mapped (λ (y : Connection). s + 1 ≤ y.number) (λ (y : Connection). x.number ≢ y.number) (λ y more same. absurd (differs x y (head h) more same)) xs
+      (numbers-from (s + 1) xs (tail h)),
+  numbers-apart (s + 1) xs (tail h),
+)
   where
     head : x.number ∷ numbers xs ≡ s ∷ range_with_len (s + 1) (length xs) → x.number ≡ s
     head h = cc
@@ -92,7 +96,8 @@ live-joined [] es x m = absurd m
 live-joined (e ∷ G) es x m =
     let now = option_to_list (connection_of e) in
     elim (In-append x (filter (λ (c : Connection). is_none (first_end c.number G)) now) (live G) m) [
-      | inl here ↦ In-left x (filter (λ (c : Connection). true) now) (joined (G ++ es)) (In_kept (λ (c : Connection). true) x now (In-filter (λ (c : Connection). is_none (first_end c.number G)) x now here).0 refl)
+      | inl here ↦ In-left x (filter (λ (c : Connection). true) now) (joined (G ++ es))
+          (In_kept (λ (c : Connection). true) x now (In-filter (λ (c : Connection). is_none (first_end c.number G)) x now here).0 refl)
       | inr later ↦ In-right x (filter (λ (c : Connection). true) now) (joined (G ++ es)) (live-joined G es x later)
     ]
 
@@ -111,7 +116,8 @@ forwards-apart w j h fits here p f r g a b same = (fits.once j p f j r g (at p f
     at : (p : ℕ) (f : Frame) → ForwardIn h.posted p f → ForwardAt w j p f
     at p f (q, is, forward) = record { hub = h; here = here; posted = q; at = is; is_forward = forward }
 
-taken : (cast : Cast) (w : World) → IsOrderly cast w → (l : ℕ) (x : Link) (j : ℕ) (h : Hub) (i : ℕ) (f : Frame) → link_at w l ≡ Some x → x.to ≡ ToHub j → hub_at w j ≡ Some h → StandsAt x Down i f → is_npdu f.octets ≡ true → IsTaken l x h f
+taken : (cast : Cast) (w : World) → IsOrderly cast w → (l : ℕ) (x : Link) (j : ℕ) (h : Hub) (i : ℕ) (f : Frame) → link_at w l ≡ Some x → x.to ≡ ToHub j → hub_at w j ≡ Some h
+    → StandsAt x Down i f → is_npdu f.octets ≡ true → IsTaken l x h f
 taken cast w o l x j h i f here leads there stands npdu = by x.side.conn refl
   where
     fits : SideFits h x
@@ -152,7 +158,8 @@ caller_is l c h G es x legal split by_link lives number =
     ap (λ (z : Connection). z.caller) same ∙ eqb-true y.0.caller l both.1
 
 -- And has the identity of the node that dialled the link.
-who_is : (cast : Cast) (w : World) → IsOrderly cast w → (j : ℕ) (h : Hub) (k l : ℕ) (y : Link) (G es : List Entry) (x : Connection) → hub_at w j ≡ Some h → history h ≡ G ++ es → In x (live G) → x.caller ≡ l → link_at w l ≡ Some y → y.from ≡ k
+who_is : (cast : Cast) (w : World) → IsOrderly cast w → (j : ℕ) (h : Hub) (k l : ℕ) (y : Link) (G es : List Entry) (x : Connection) → hub_at w j ≡ Some h → history h ≡ G ++ es
+    → In x (live G) → x.caller ≡ l → link_at w l ≡ Some y → y.from ≡ k
     → identity_in cast (ToNode k) ≡ Some x.who
 who_is cast w o j h k l y G es x there split lives caller here from =
     let mine : In x (joined (history h)) = subst (λ (H : List Entry). In x (joined H)) (sym split) (live-joined G es x lives) in
@@ -181,7 +188,8 @@ same-front (x ∷ xs) ys (u ∷ us) vs h e = both (front h) (same-front xs ys us
     both : x ≡ u → xs ≡ us → x ∷ xs ≡ u ∷ us
     both p q = cc
 
-same-link : (cast : Cast) (w : World) → IsOrderly cast w → (j : ℕ) (h : Hub) (k : ℕ) → hub_at w j ≡ Some h → (l : ℕ) (x : Link) (f : Frame) (m : ℕ) (y : Link) (g : Frame) → link_at w l ≡ Some x → x.from ≡ k → link_at w m ≡ Some y → y.from ≡ k
+same-link : (cast : Cast) (w : World) → IsOrderly cast w → (j : ℕ) (h : Hub) (k : ℕ) → hub_at w j ≡ Some h → (l : ℕ) (x : Link) (f : Frame) (m : ℕ) (y : Link) (g : Frame)
+    → link_at w l ≡ Some x → x.from ≡ k → link_at w m ≡ Some y → y.from ≡ k
     → (a : IsTaken l x h f) (b : IsTaken m y h g) → length a.entered.before ≡ length b.entered.before → l ≡ m
 same-link cast w o j h k there l x f m y g at_x from_x at_y from_y a b index =
     let legal = o.legal j h there in
@@ -222,7 +230,8 @@ pub record IsFromHub (w : World) (l : ℕ) (way : Way) (x : Link) (f : Frame) : 
 abbrev frame_at : List ℕ → ℕ → Frame
 frame_at o place = record { octets = o; sent_at = place }
 
-from_hub : (cast : Cast) (w : World) → IsOrderly cast w → (l : ℕ) (way : Way) (i : ℕ) (o : List ℕ) (place k j : ℕ) (h : HeardAt w l way i o place k) → way ≡ Down → h.at.to ≡ ToHub j → IsFromHub w l way h.at (frame_at o place)
+from_hub : (cast : Cast) (w : World) → IsOrderly cast w → (l : ℕ) (way : Way) (i : ℕ) (o : List ℕ) (place k j : ℕ) (h : HeardAt w l way i o place k) → way ≡ Down → h.at.to ≡ ToHub j
+    → IsFromHub w l way h.at (frame_at o place)
 from_hub cast w orderly l way i o place k j h down leads =
     let g = hub-found w.hubs j (orderly.hubs.within l j h.at h.here leads) in
     record {
@@ -234,7 +243,8 @@ from_hub cast w orderly l way i o place k j h down leads =
     }
 
 -- what a node puts where a node hears isn't what a hub passed on
-not_passed : (cast : Cast) (w : World) → IsOrderly cast w → (m : ℕ) (on : Way) (i : ℕ) (p : List ℕ) (place k : ℕ) (b : HeardAt w m on i p place k) (n : ℕ) → putter on b.at ≡ ToNode n → (l : ℕ) (way : Way) (x : Link) (f : Frame) → IsFromHub w l way x f → f.sent_at ≡ place → ⊥
+not_passed : (cast : Cast) (w : World) → IsOrderly cast w → (m : ℕ) (on : Way) (i : ℕ) (p : List ℕ) (place k : ℕ) (b : HeardAt w m on i p place k) (n : ℕ) → putter on b.at ≡ ToNode n
+    → (l : ℕ) (way : Way) (x : Link) (f : Frame) → IsFromHub w l way x f → f.sent_at ≡ place → ⊥
 not_passed cast w orderly m on i p place k b n by_node l way x f hub sent =
     let t = hub.is_taken in
     let s = orderly.forwards.sources hub.number (length t.entered.before) t.entered.frame (entered_at w hub.number hub.hub t.conn f hub.there t.entered) in
@@ -246,7 +256,8 @@ not_passed cast w orderly m on i p place k b n by_node l way x f hub sent =
     let heard : receiver Up b.at ≡ ToNode k = ap (λ (v : Way). receiver v b.at) (sym one.way_is) ∙ b.heard in
     not_both k hub.number b.at.to heard (ap (λ (y : Link). y.to) link ∙ s.leads)
 
-both_passed : (cast : Cast) (w : World) → IsOrderly cast w → (l : ℕ) (way : Way) (i : ℕ) (o : List ℕ) (m : ℕ) (on : Way) (j : ℕ) (p : List ℕ) (place k : ℕ) (a : HeardAt w l way i o place k) (b : HeardAt w m on j p place k)
+both_passed : (cast : Cast) (w : World) → IsOrderly cast w → (l : ℕ) (way : Way) (i : ℕ) (o : List ℕ) (m : ℕ) (on : Way) (j : ℕ) (p : List ℕ) (place k : ℕ) (a : HeardAt w l way i o place k)
+    (b : HeardAt w m on j p place k)
     → IsFromHub w l way a.at (frame_at o place) → IsFromHub w m on b.at (frame_at p place) → IsOne l way i m on j
 both_passed cast w orderly l way i o m on j p place k a b x y =
     let s = x.is_taken.entered in
@@ -256,10 +267,12 @@ both_passed cast w orderly l way i o m on j p place k a b x y =
     let hub : y.hub ≡ x.hub = some_same y.hub x.hub (sym y.there ∙ ap (hub_at w) (sym one.0) ∙ x.there) in
     let moved : SameFrom x.is_taken x.hub = subst (SameFrom x.is_taken) hub (y.is_taken, one.1) in
     let link : l ≡ m =
-    same-link cast w orderly x.number x.hub k x.there l a.at (frame_at o place) m b.at (frame_at p place) a.here (from_of way a.at x.is_down a.heard) b.here (from_of on b.at y.is_down b.heard) x.is_taken moved.0 moved.1 in
+    same-link cast w orderly x.number x.hub k x.there l a.at (frame_at o place) m b.at (frame_at p place) a.here (from_of way a.at x.is_down a.heard) b.here
+    (from_of on b.at y.is_down b.heard) x.is_taken moved.0 moved.1 in
     let same : b.at ≡ a.at = some_same b.at a.at (sym b.here ∙ ap (link_at w) (sym link) ∙ a.here) in
     let first : StandsAt a.at Down i (frame_at o place) = subst (λ (v : Way). StandsAt a.at v i (frame_at o place)) x.is_down a.stands in
-    let second : StandsAt a.at Down j (frame_at p place) = subst (λ (z : Link). StandsAt z Down j (frame_at p place)) same (subst (λ (v : Way). StandsAt b.at v j (frame_at p place)) y.is_down b.stands) in
+    let second : StandsAt a.at Down j (frame_at p place) = subst (λ (z : Link). StandsAt z Down j (frame_at p place)) same
+    (subst (λ (v : Way). StandsAt b.at v j (frame_at p place)) y.is_down b.stands) in
     record { link = link; way_is = x.is_down ∙ sym y.is_down; index = one-index a.at.down.put i j (frame_at o place) (frame_at p place) x.is_taken.different first a.npdu second b.npdu refl }
   where
     from_of : (v : Way) (z : Link) → v ≡ Down → receiver v z ≡ ToNode k → z.from ≡ k
@@ -273,10 +286,12 @@ both_passed cast w orderly l way i o m on j p place k a b x y =
 pub come_once : (cast : Cast) (w : World) → IsOrderly cast w → ComeOnce w
 come_once cast w orderly l way i o m on j p place k a b = by (sort_of way a.at) (sort_of on b.at)
   where
-    by : ((n : ℕ) × (putter way a.at ≡ ToNode n)) ⊎ ((j : ℕ) × (way ≡ Down) × (a.at.to ≡ ToHub j)) → ((n : ℕ) × (putter on b.at ≡ ToNode n)) ⊎ ((j : ℕ) × (on ≡ Down) × (b.at.to ≡ ToHub j)) → IsOne l way i m on j
+    by : ((n : ℕ) × (putter way a.at ≡ ToNode n)) ⊎ ((j : ℕ) × (way ≡ Down) × (a.at.to ≡ ToHub j)) → ((n : ℕ) × (putter on b.at ≡ ToNode n)) ⊎ ((j : ℕ) × (on ≡ Down) × (b.at.to ≡ ToHub j))
+        → IsOne l way i m on j
     by (inl (n, put)) (inl (q, also)) =
         orderly.put l way i (frame_at o place) m on j (frame_at p place) (a.at, a.here, record { stands = a.stands; npdu = a.npdu; node = n; putter_is = put })
         (b.at, b.here, record { stands = b.stands; npdu = b.npdu; node = q; putter_is = also }) refl
     by (inl (n, put)) (inr (h, down, leads)) = absurd (not_passed cast w orderly l way i o place k a n put m on b.at (frame_at p place) (from_hub cast w orderly m on j p place k h b down leads) refl)
     by (inr (h, down, leads)) (inl (n, put)) = absurd (not_passed cast w orderly m on j p place k b n put l way a.at (frame_at o place) (from_hub cast w orderly l way i o place k h a down leads) refl)
-    by (inr (h, down, leads)) (inr (g, also, to)) = both_passed cast w orderly l way i o m on j p place k a b (from_hub cast w orderly l way i o place k h a down leads) (from_hub cast w orderly m on j p place k g b also to)
+    by (inr (h, down, leads)) (inr (g, also, to)) = both_passed cast w orderly l way i o m on j p place k a b (from_hub cast w orderly l way i o place k h a down leads)
+        (from_hub cast w orderly m on j p place k g b also to)

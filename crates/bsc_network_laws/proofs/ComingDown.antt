@@ -1,4 +1,5 @@
 -- An NPDU on the way down from a hub was passed on to the connection that joined by this link.
+-- It serves clauses of functions of `laws`.
 use Rattle.std.proofs.Common.{◌≡◌, ℕ, List, ◌∷◌, ◌++◌, Option, Some, None, refl, ap, sym, subst, ◌∙◌}
 use Rattle.std.specs.List.{AllByRecursion}
 use Rattle.std.proofs.lemmas.List.{map-append}
@@ -37,5 +38,10 @@ comes_down S w joins legally fit passes l j h link here leads at =
     by None is = tt
     by (Some c) is =
         all-mapped (IsPassedTo S w h.posted c) (IsPassedBy S w h.posted l)
-        (λ f p. (p.0, joined_by h l c p.0 (all-at (λ (x : Hub). Legal x.about (history x)) w.hubs j h legally.legal at) (joins l j h link c (record { hub = at; link = here; leads = leads }) is) (to_has_joined S w h.posted p.0 f p.2) p.1, p.2))
+        (λ f p. (
+          p.0,
+          joined_by h l c p.0 (all-at (λ (x : Hub). Legal x.about (history x)) w.hubs j h legally.legal at)
+              (joins l j h link c (record { hub = at; link = here; leads = leads }) is) (to_has_joined S w h.posted p.0 f p.2) p.1,
+          p.2,
+        ))
         (npdus (taken_of h (Some c) link.side.taken)) (all-taken (IsPassedTo S w h.posted c) link.side.taken (frames h c) (passes j h c at))

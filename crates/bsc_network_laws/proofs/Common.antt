@@ -1,4 +1,5 @@
 -- Lemmas that crates above cite too.
+-- It serves clauses of functions of `laws`.
 use Rattle.bsc_network.specs.NodeSides.{other_way}
 use Rattle.bsc_network.specs.Worlds.{Link}
 use Rattle.bsc_network.specs.declared.way.Way.{Way}

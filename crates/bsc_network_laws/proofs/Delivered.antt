@@ -1,4 +1,5 @@
 -- The theorem: a network delivers what was sent, by a law of nodes.
+-- It serves the clauses of `networks_deliver_what_was_sent`.
 use Rattle.bsc_node_identity.proofs.Risen.{npdus_pass_where_up}
 use Rattle.bsc_network_laws.specs.Deliveries.{NetworksDeliverWhatWasSent}
 use Rattle.bsc_network_laws.proofs.Carried.{each_from_its_send}

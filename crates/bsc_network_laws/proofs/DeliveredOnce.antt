@@ -1,4 +1,5 @@
 -- No two deliveries of a network are of one Send and to one node.
+-- It serves the clauses of `networks_deliver_what_was_sent` and `none_is_delivered_twice`.
 use Rattle.std.proofs.Common.{ℕ}
 use Rattle.bsc_history.specs.Legality.{Legal}
 use Rattle.bsc_network.specs.Worlds.{World, Hub, history}

@@ -1,4 +1,5 @@
 -- After each step, a connection of a hub has the identity of the node that dialled its link.
+-- It serves clauses of functions of `laws`.
 use Rattle.std.proofs.Common.{◌≡◌, ℕ, Bool, true, false, List, [], ◌∷◌, ◌++◌, Option, Some, None, option_to_list, refl, ap, sym, subst, ◌∙◌}
 use Rattle.std.specs.Prelude.{◌+◌, slice_get, ⊤}
 use Rattle.std.specs.Option.{option_map}
@@ -86,7 +87,8 @@ asked g (Silent check) who is = cc
 asked g (Nak check octets) who is = cc
 
 -- The one who asks is the one whom the octets name.
-pub asks_right : (own : Option Identity) (m : List ℕ) (p : ℕ) (place : Place) (max : ℕ) (g : Standing) (who : Identity) → ((x : Identity) → own ≡ Some x → IsNode x) → Ask who ≡ message_step g (outcome_of m place max)
+pub asks_right : (own : Option Identity) (m : List ℕ) (p : ℕ) (place : Place) (max : ℕ) (g : Standing) (who : Identity) → ((x : Identity) → own ≡ Some x → IsNode x)
+    → Ask who ≡ message_step g (outcome_of m place max)
     → IsNamedRight own (record { octets = m; sent_at = p }) → own ≡ Some who
 asks_right own m p place max g who fit is right = by (is_connect m) refl
   where
@@ -130,14 +132,16 @@ inv-same cast u v kept hubs all = subst (AllByRecursion (JoinsDiallers cast v)) 
 
 -- ---- calls
 
-joins-more : (cast : Cast) (w : World) (caller place : ℕ) (call : Call) (h : Hub) → JoinsDiallers cast w h → AllByRecursion (IsOfDialler cast w) (option_to_list (connection_of (entry_in w h caller call)))
+joins-more : (cast : Cast) (w : World) (caller place : ℕ) (call : Call) (h : Hub) → JoinsDiallers cast w h
+    → AllByRecursion (IsOfDialler cast w) (option_to_list (connection_of (entry_in w h caller call)))
     → JoinsDiallers cast w (with_call w caller place call h)
 joins-more cast w caller place call h all one =
     subst (AllByRecursion (IsOfDialler cast w))
     (sym (ap joined (map-append (λ (p : Posted). p.entry) h.posted (record { entry = entry_in w h caller call; sent_at = place } ∷ [])) ∙ More.joined-more (history h) (entry_in w h caller call)))
     (all-joined (IsOfDialler cast w) (joined (history h)) (option_to_list (connection_of (entry_in w h caller call))) all one)
 
-inv-called : (cast : Cast) (w : World) (j caller place : ℕ) (call : Call) → ((h : Hub) → hub_at w j ≡ Some h → AllByRecursion (IsOfDialler cast w) (option_to_list (connection_of (entry_in w h caller call))))
+inv-called : (cast : Cast) (w : World) (j caller place : ℕ) (call : Call)
+    → ((h : Hub) → hub_at w j ≡ Some h → AllByRecursion (IsOfDialler cast w) (option_to_list (connection_of (entry_in w h caller call))))
     → Inv cast w → Inv cast (called j caller place call w)
 inv-called cast w j caller place call one = all-changed_here (JoinsDiallers cast w) j (with_call w caller place call) w.hubs (λ h here all. joins-more cast w caller place call h all (one h here))
 
@@ -150,17 +154,20 @@ IsFit cast = (k : ℕ) (who : Identity) → identity_in cast (ToNode k) ≡ Some
 abbrev pub KnowsNames : Cast → ℕ → ℕ → World → Type 0
 KnowsNames cast T place u = KnowsAll cast T place u × Named cast u
 
-inv-joins : (cast : Cast) → IsFit cast → (w : World) (l j place : ℕ) (h : Hub) (k : Link) (m : List ℕ) (who : Identity) (c : ℕ) (replaced : Option ℕ) → IsSide w l j h k → HasArrived w l Up (record { content = Octets m; sent_at = place })
+inv-joins : (cast : Cast) → IsFit cast → (w : World) (l j place : ℕ) (h : Hub) (k : Link) (m : List ℕ) (who : Identity) (c : ℕ) (replaced : Option ℕ) → IsSide w l j h k
+    → HasArrived w l Up (record { content = Octets m; sent_at = place })
     → IsSaid h k m (Ask who) → reply_in w h (Connect who) ≡ Joined c replaced → Named cast w → Inv cast w → Inv cast (called j l place (Connect who) w)
 inv-joins cast fit w l j place h k m who c replaced side arrival said is names =
     inv-called cast w j l place (Connect who) (λ g here.
     one_made (IsOfDialler cast w) l who (reply_in w g (Connect who)) c replaced (ap (λ (x : Hub). reply_in w x (Connect who)) (some_same g h (sym here ∙ side.hub)) ∙ is) (
       k.from,
       ap (option_map (λ (x : Link). x.from)) side.link,
-      asks_right (identity_in cast (ToNode k.from)) m place (HubPort (phase said.events)) h.about.hub.max_bvlc (standing said.events) who (fit k.from) said.is (arrived-up cast w l place k m side.link arrival names),
+      asks_right (identity_in cast (ToNode k.from)) m place (HubPort (phase said.events)) h.about.hub.max_bvlc (standing said.events) who (fit k.from) said.is
+          (arrived-up cast w l place k m side.link arrival names),
     ))
 
-each_act : (cast : Cast) (T place : ℕ) (D : WorldStep) (k : ℕ) (w : World) (n : Node) (by : Option Arrival) (e : NodeEvent) → Comes D w k n by e → EachAct k by (λ action. ⊤) (KeepsGiven (AmidAll w cast T place) (Inv cast))
+each_act : (cast : Cast) (T place : ℕ) (D : WorldStep) (k : ℕ) (w : World) (n : Node) (by : Option Arrival) (e : NodeEvent) → Comes D w k n by e
+    → EachAct k by (λ action. ⊤) (KeepsGiven (AmidAll w cast T place) (Inv cast))
 each_act cast T place D k w n by e come = record {
   puts = λ u name o known a. inv-same cast u _ (A.each.puts u name o tt a.0.kept) (puts-hubs u name (Octets o));
   closes = λ u name a. inv-same cast u _ (A.each.closes u name a.0.kept) (puts-hubs u name Closed);
@@ -196,7 +203,8 @@ diallers_stay cast fit T place D = record {
   leaves = λ w l j h k c side conn m. inv-called cast w j l w.steps _ (λ g here. tt);
   stops = λ w j h here is m. inv-called cast w j _ w.steps _ (λ g at. tt);
   asks = λ w l j p h k o who side arrival said is m.
-      inv-called cast w j l p (Connect who) (λ g here. none_made (IsOfDialler cast w) l who (reply_in w g (Connect who)) (ap (λ (x : Hub). says_joined (reply_in w x (Connect who))) (some_same g h (sym here ∙ side.hub)) ∙ is));
+      inv-called cast w j l p (Connect who) (λ g here. none_made (IsOfDialler cast w) l who (reply_in w g (Connect who))
+      (ap (λ (x : Hub). says_joined (reply_in w x (Connect who))) (some_same g h (sym here ∙ side.hub)) ∙ is));
   joins = λ w l j p h k o who c replaced side arrival said is m all.
       let v = called j l p (Connect who) w in
       let u = with_side l (λ x. record x { conn = Some c }) v in
@@ -204,7 +212,8 @@ diallers_stay cast fit T place D = record {
   forwards = λ w l j p h k o c side conn arrival said m. inv-called cast w j l p (Forward c o) (λ g here. tt);
   takes = λ w l j h k c f side conn is m. inv-same cast w _ (A.each.takes w l j h k c f side conn is) refl;
   hears = λ w k n by e here come fits_now m.
-      hears-all cast T place D k w n by e (λ action. ⊤) (Inv cast) here come fits_now (each_act cast T place D k w n by e come) m.0 (inv-same cast w (goes_on_in k (record { now = w.now; event = e }) w) (keep-log w k (record { now = w.now; event = e })) refl) (λ action among. tt);
+      hears-all cast T place D k w n by e (λ action. ⊤) (Inv cast) here come fits_now (each_act cast T place D k w n by e come) m.0
+      (inv-same cast w (goes_on_in k (record { now = w.now; event = e }) w) (keep-log w k (record { now = w.now; event = e })) refl) (λ action among. tt);
   forgets = λ w later m. inv-same cast w _ (A.each.forgets w later) refl;
   arrives = λ w l way k x here is m. inv-same cast w _ (A.each.arrives w l way k x here is) refl;
   loses = λ w l m. inv-same cast w _ (A.each.loses w l) refl;
@@ -214,7 +223,8 @@ diallers_stay cast fit T place D = record {
     A = Holding.lets D
 
 -- What each move keeps where names are right too, a step keeps.
-pub kept-names : (cast : Cast) (It : World → Type 0) (t : TimedStep) (place : ℕ) → Each t.step (KeepsGiven (KnowsNames cast t.now place) It) → (w : World) → KnowsNames cast t.now place (begun w t) → It (begun w t) → It (done w t)
+pub kept-names : (cast : Cast) (It : World → Type 0) (t : TimedStep) (place : ℕ) → Each t.step (KeepsGiven (KnowsNames cast t.now place) It) → (w : World)
+    → KnowsNames cast t.now place (begun w t) → It (begun w t) → It (done w t)
 kept-names cast It t place N w known =
     (lets-step (KeepsBoth (KnowsNames cast t.now place) It) t
     (beside t.step (KnowsNames cast t.now place) It (together t.step (KnowsAll cast t.now place) (Named cast) (knows_all cast t.now place t.step) (named_stays cast t.now place t.step)) N)

@@ -1,4 +1,5 @@
 -- What each NPDU is of that a node put on a link to another node; and that what changes links, or puts something on them, keeps it.
+-- It serves clauses of functions of `laws`.
 use Rattle.std.proofs.Common.{◌≡◌, ◌<◌, ◌⊎◌, inl, inr, ℕ, true, List, [], ◌∷◌, ◌++◌, length, Some, None, refl, ap, sym, subst, ◌∙◌, append_assoc}
 use Rattle.std.specs.Prelude.{◌^◌, filter_map, slice_get}
 use Rattle.std.specs.List.{AllByRecursion}
@@ -99,7 +100,8 @@ sent-lasts S cast u v g l way k j f s =
       destination = s.destination;
     }
 
-all-last : (S : Sendings) (cast : Cast) (u v : World) → Lasts u v → (l : ℕ) (way : Way) (k j : ℕ) (fs : List Frame) → AllByRecursion (IsSentDirectly S cast u l way k j) fs → AllByRecursion (IsSentDirectly S cast v l way k j) fs
+all-last : (S : Sendings) (cast : Cast) (u v : World) → Lasts u v → (l : ℕ) (way : Way) (k j : ℕ) (fs : List Frame) → AllByRecursion (IsSentDirectly S cast u l way k j) fs
+    → AllByRecursion (IsSentDirectly S cast v l way k j) fs
 all-last S cast u v g l way k j fs all = all-mapped (IsSentDirectly S cast u l way k j) (IsSentDirectly S cast v l way k j) (sent-lasts S cast u v g l way k j) fs all
 
 -- ---- links are changed, and nothing is put
@@ -117,7 +119,8 @@ pub record Spares (f : Link → Link) : Type 0 where
 pub direct-link : (S : Sendings) (cast : Cast) (w : World) (i : ℕ) (f : Link → Link) → Spares f → Lasts w (with_link i f w) → AllDirect S cast w → AllDirect S cast (with_link i f w)
 direct-link S cast w i f spares g all l y way k j d = by (got-changed i f w.links l y d.link)
   where
-    by : (slice_get w.links l ≡ Some y) ⊎ ((x : Link) × (i ≡ l) × (slice_get w.links l ≡ Some x) × (y ≡ f x)) → AllByRecursion (IsSentDirectly S cast (with_link i f w) l way k j) (npdus (messages (traffic way y)))
+    by : (slice_get w.links l ≡ Some y) ⊎ ((x : Link) × (i ≡ l) × (slice_get w.links l ≡ Some x) × (y ≡ f x))
+        → AllByRecursion (IsSentDirectly S cast (with_link i f w) l way k j) (npdus (messages (traffic way y)))
     by (inl at) = all-last S cast w (with_link i f w) g l way k j (npdus (messages (traffic way y))) (all l y way k j (record { link = at; puts = d.puts; hears = d.hears }))
     by (inr (x, same, at, is)) =
         subst (λ (ps : List Parcel). AllByRecursion (IsSentDirectly S cast (with_link i f w) l way k j) (npdus (filter_map message_of ps)))
@@ -211,7 +214,8 @@ FreshOn S cast u l way place content =
     (x : Link) (k j : ℕ) → IsDirect u l x way k j
     → AllByRecursion (IsSentDirectly S cast (puts_at l way place content u) l way k j) (npdus (filter_map message_of (record { content = content; sent_at = place } ∷ [])))
 
-pub direct-puts : (S : Sendings) (cast : Cast) (u : World) (i place : ℕ) (on : Way) (content : Content) → FreshOn S cast u i on place content → AllDirect S cast u → AllDirect S cast (puts_at i on place content u)
+pub direct-puts : (S : Sendings) (cast : Cast) (u : World) (i place : ℕ) (on : Way) (content : Content) → FreshOn S cast u i on place content → AllDirect S cast u
+    → AllDirect S cast (puts_at i on place content u)
 direct-puts S cast u i place on content fresh all l y way k j d = by (got-changed i (with_traffic on (and_then p)) u.links l y d.link)
   where
     p : Parcel
@@ -229,7 +233,8 @@ direct-puts S cast u i place on content fresh all l y way k j d = by (got-change
         (subst (λ (a : Way). AllByRecursion (IsSentDirectly S cast v i a k j) (npdus (filter_map message_of (p ∷ [])))) one
         (fresh x k j (subst (λ (m : ℕ). IsDirect u m x on k j) (sym same) (subst (λ (a : Way). IsDirect u l x a k j) (sym one) direct))))
 
-    by : (slice_get u.links l ≡ Some y) ⊎ ((x : Link) × (i ≡ l) × (slice_get u.links l ≡ Some x) × (y ≡ with_traffic on (and_then p) x)) → AllByRecursion (IsSentDirectly S cast v l way k j) (npdus (messages (traffic way y)))
+    by : (slice_get u.links l ≡ Some y) ⊎ ((x : Link) × (i ≡ l) × (slice_get u.links l ≡ Some x) × (y ≡ with_traffic on (and_then p) x))
+        → AllByRecursion (IsSentDirectly S cast v l way k j) (npdus (messages (traffic way y)))
     by (inl at) = all-last S cast u v g l way k j (npdus (messages (traffic way y))) (all l y way k j (record { link = at; puts = d.puts; hears = d.hears }))
     by (inr (x, same, at, is)) =
         let direct : IsDirect u l x way k j = record {
@@ -240,13 +245,15 @@ direct-puts S cast u i place on content fresh all l y way k j d = by (got-change
         subst (λ (z : Link). AllByRecursion (IsSentDirectly S cast v l way k j) (npdus (messages (traffic way z)))) (sym is)
         (put-on (IsSentDirectly S cast v l way k j) on way p x (all-last S cast u v g l way k j (npdus (messages (traffic way x))) (all l x way k j direct)) (new x same direct))
 
-pub direct-hub : (S : Sendings) (cast : Cast) (u : World) (l j place : ℕ) (h : Hub) (k : Link) (content : Content) → IsSide u l j h k → AllDirect S cast u → AllDirect S cast (puts_at l Down place content u)
+pub direct-hub : (S : Sendings) (cast : Cast) (u : World) (l j place : ℕ) (h : Hub) (k : Link) (content : Content) → IsSide u l j h k → AllDirect S cast u
+    → AllDirect S cast (puts_at l Down place content u)
 direct-hub S cast u l j place h k content side =
     direct-puts S cast u l place Down content (λ x from to d. absurd (not_both from j x.to d.puts (ap (λ (y : Link). y.to) (some_same x k (sym d.link ∙ side.link)) ∙ side.leads)))
 
 -- ---- a link more
 
-none-new : (S : Sendings) (cast : Cast) (v u : World) (i : ℕ) (t : Target) (l : ℕ) (way : Way) (k j : ℕ) → AllByRecursion (IsSentDirectly S cast v l way k j) (npdus (messages (traffic way (new_link u i t))))
+none-new : (S : Sendings) (cast : Cast) (v u : World) (i : ℕ) (t : Target) (l : ℕ) (way : Way) (k j : ℕ)
+    → AllByRecursion (IsSentDirectly S cast v l way k j) (npdus (messages (traffic way (new_link u i t))))
 none-new S cast v u i (ToHub a) l Up k j = tt
 none-new S cast v u i (ToHub a) l Down k j = tt
 none-new S cast v u i (ToNode a) l Up k j = tt

@@ -1,5 +1,6 @@
 -- After each step, each NPDU that a node put on a link to another node is that of a Send of its own to that other, with whom it had the
 -- link as an established slot.
+-- It serves clauses of functions of `laws`.
 use Rattle.std.proofs.Common.{◌≡◌, ◌<◌, ◌⊎◌, inl, inr, ℕ, suc, Bool, true, false, cond, List, [], ◌∷◌, ◌++◌, length, Option, Some, None, refl, ap, sym, subst, ◌∙◌}
 use Rattle.std.specs.Prelude.{◌+◌, ◌^◌, filter_map, slice_get, ⊤}
 use Rattle.std.specs.Option.{option_map}
@@ -59,8 +60,10 @@ use Rattle.bsc_network_laws.proofs.Lasting.{NodeGrows, Lasts, lasts-none, lasts-
 use Rattle.bsc_network_laws.proofs.Lasting as Lasting
 use Rattle.bsc_network_laws.proofs.Brought.{at_once, begins-with, IsDue, each-due, IsSentOver, IsPutOver, each-over}
 use Rattle.bsc_network_laws.proofs.MadeWell.{IsSet, MadeWell}
-use Rattle.bsc_network_laws.proofs.OtherEnds.{LeadsToHub, HubsLead, hubs-same, hubs-holds, hubs-log, leads-taken, leads-dialled, who-lasts, puts-nodes, held-other, found-passes, acts-after, set-of, KnowsEnds}
-use Rattle.bsc_network_laws.proofs.DirectLinks.{IsSentDirectly, AllDirect, log-grows, sent-lasts, direct-same, direct-link, spares-lost, spares-front, direct-side, direct-puts, direct-hub, direct-longer}
+use Rattle.bsc_network_laws.proofs.OtherEnds.{LeadsToHub, HubsLead, hubs-same, hubs-holds, hubs-log, leads-taken, leads-dialled, who-lasts, puts-nodes, held-other, found-passes}
+use Rattle.bsc_network_laws.proofs.OtherEnds.{acts-after, set-of, KnowsEnds}
+use Rattle.bsc_network_laws.proofs.DirectLinks.{IsSentDirectly, AllDirect, log-grows, sent-lasts, direct-same, direct-link, spares-lost, spares-front, direct-side, direct-puts}
+use Rattle.bsc_network_laws.proofs.DirectLinks.{direct-hub, direct-longer}
 use Rattle.bsc_lemmas.proofs.Lists.{all-at}
 use Rattle.bsc_network.proofs.Common.{same_node}
 use Rattle.bsc_network_laws.proofs.Common.{puts-other}
@@ -102,7 +105,8 @@ record Before (S : Sendings) (cast : Cast) (place : ℕ) (w : World) (k : ℕ) (
   peers : (s : ℕ) (who : Identity) → established_peer s n.log ≡ Some who → who_is cast (other_end w (hold_of (Direct s) n)) ≡ Some who
 
 -- what a Send puts over a direct connection
-put-directly : (S : Sendings) (cast : Cast) (place : ℕ) (w u : World) (k : ℕ) (n m : Node) (e : NodeEvent) (name : LinkName) (o : List ℕ) (h : Hold) (x : Link) (j : ℕ) → Before S cast place w k n e → Within S cast w k n e u
+put-directly : (S : Sendings) (cast : Cast) (place : ℕ) (w u : World) (k : ℕ) (n m : Node) (e : NodeEvent) (name : LinkName) (o : List ℕ) (h : Hold) (x : Link) (j : ℕ)
+    → Before S cast place w k n e → Within S cast w k n e u
     → node_at u k ≡ Some m → hold_of name m ≡ Some h → link_at u h.link ≡ Some x → receiver (other_way h.hears) x ≡ ToNode j → IsSentOver e n.log name o
     → IsSentDirectly S cast u h.link (other_way h.hears) k j (record { octets = o; sent_at = place })
 put-directly S cast place w u k n m e name o h x j b i here held found hears s = by name refl s.leads
@@ -160,14 +164,16 @@ put-directly S cast place w u k n m e name o h x j b i here held found hears s =
           destination = sym at;
         }
 
-fresh-one : (P : Frame → Type 0) (place : ℕ) (o : List ℕ) → (is_npdu o ≡ true → P (record { octets = o; sent_at = place })) → AllByRecursion P (npdus (filter_map message_of (record { content = Message o; sent_at = place } ∷ [])))
+fresh-one : (P : Frame → Type 0) (place : ℕ) (o : List ℕ) → (is_npdu o ≡ true → P (record { octets = o; sent_at = place }))
+    → AllByRecursion P (npdus (filter_map message_of (record { content = Message o; sent_at = place } ∷ [])))
 fresh-one P place o fresh = by (is_npdu o) fresh
   where
     by : (b : Bool) → (b ≡ true → P (record { octets = o; sent_at = place })) → AllByRecursion P (cond b (record { octets = o; sent_at = place } ∷ []) [])
     by true f = (f refl, tt)
     by false f = tt
 
-direct-puts_by : (S : Sendings) (cast : Cast) (place : ℕ) (w u : World) (k : ℕ) (n : Node) (e : NodeEvent) (name : LinkName) (o : List ℕ) → Before S cast place w k n e → HoldsFit u → u.steps ≡ place → IsPutOver e n.log (Put name o)
+direct-puts_by : (S : Sendings) (cast : Cast) (place : ℕ) (w u : World) (k : ℕ) (n : Node) (e : NodeEvent) (name : LinkName) (o : List ℕ) → Before S cast place w k n e → HoldsFit u
+    → u.steps ≡ place → IsPutOver e n.log (Put name o)
     → Within S cast w k n e u → AllDirect S cast (puts_by k name (Message o) u)
 direct-puts_by S cast place w u k n e name o b fit now over i = at_node (node_at u k) refl
   where
@@ -178,7 +184,8 @@ direct-puts_by S cast place w u k n e name o b fit now over i = at_node (node_at
         (λ x from j d. fresh-one _ u.steps o (λ npdu.
         let end : IsHeardBy u h.link h.hears k = all-found (EndOf u k) (λ (g : Hold). same_link g.name name) _ h (all-reversed (EndOf u k) m.holds (fit k m here)) is in
         let same : k ≡ from = same_node k from (sym (some_same (receiver h.hears x) (ToNode k) (sym (ap (option_map (receiver h.hears)) d.link) ∙ end)) ∙ sym (puts-other h.hears x) ∙ d.puts) in
-        sent-lasts S cast u (puts_at h.link (other_way h.hears) u.steps (Message o) u) (lasts-puts u h.link (other_way h.hears) u.steps (Message o)) h.link (other_way h.hears) from j (record { octets = o; sent_at = u.steps })
+        sent-lasts S cast u (puts_at h.link (other_way h.hears) u.steps (Message o) u) (lasts-puts u h.link (other_way h.hears) u.steps (Message o)) h.link (other_way h.hears) from j
+        (record { octets = o; sent_at = u.steps })
         (subst (λ (a : ℕ). IsSentDirectly S cast u h.link (other_way h.hears) a j (record { octets = o; sent_at = u.steps })) same
         (subst (λ (p : ℕ). IsSentDirectly S cast u h.link (other_way h.hears) k j (record { octets = o; sent_at = p })) (sym now)
         (put-directly S cast place w u k n m e name o h x j b i here is d.link d.hears (over npdu)))))) i.direct
@@ -200,7 +207,8 @@ direct-closes S cast u k name all = at_node (node_at u k)
 
 -- ---- the moves of a step
 
-within-same : (S : Sendings) (cast : Cast) (w : World) (k : ℕ) (n : Node) (e : NodeEvent) (u v : World) → Lasts u v → v.nodes ≡ u.nodes → AllDirect S cast v → Within S cast w k n e u → Within S cast w k n e v
+within-same : (S : Sendings) (cast : Cast) (w : World) (k : ℕ) (n : Node) (e : NodeEvent) (u v : World) → Lasts u v → v.nodes ≡ u.nodes → AllDirect S cast v → Within S cast w k n e u
+    → Within S cast w k n e v
 within-same S cast w k n e u v g same direct i = record {
   grown = lasts-then (goes_on_in k (at_once w.now e) w) u v i.grown g;
   hubs = hubs-same u v g same i.hubs;
@@ -208,7 +216,8 @@ within-same S cast w k n e u v g same direct i = record {
   direct = direct;
 }
 
-within-holds : (S : Sendings) (cast : Cast) (w : World) (k : ℕ) (n : Node) (e : NodeEvent) (u : World) (h : Hold) → LeadsToHub u h → (is_beginning e ≡ false → (s : ℕ) → same_link h.name (Direct s) ≡ false) → Within S cast w k n e u → Within S cast w k n e (holds k h u)
+within-holds : (S : Sendings) (cast : Cast) (w : World) (k : ℕ) (n : Node) (e : NodeEvent) (u : World) (h : Hold) → LeadsToHub u h
+    → (is_beginning e ≡ false → (s : ℕ) → same_link h.name (Direct s) ≡ false) → Within S cast w k n e u → Within S cast w k n e (holds k h u)
 within-holds S cast w k n e u h leads other i = record {
   grown = lasts-then (goes_on_in k (at_once w.now e) w) u (holds k h u) i.grown (Lasting.lasts-holds u k h);
   hubs = hubs-holds u k h leads i.hubs;
@@ -216,7 +225,8 @@ within-holds S cast w k n e u h leads other i = record {
   direct = direct-same S cast u (holds k h u) (Lasting.lasts-holds u k h) refl i.direct;
 }
   where
-    by : is_beginning e ≡ false → (s : ℕ) (m : Node) → (slice_get u.nodes k ≡ Some m) ⊎ ((x : Node) × (k ≡ k) × (slice_get u.nodes k ≡ Some x) × (m ≡ record x { holds = x.holds ++ h ∷ [] })) → hold_of (Direct s) m ≡ hold_of (Direct s) n
+    by : is_beginning e ≡ false → (s : ℕ) (m : Node) → (slice_get u.nodes k ≡ Some m) ⊎ ((x : Node) × (k ≡ k) × (slice_get u.nodes k ≡ Some x) × (m ≡ record x { holds = x.holds ++ h ∷ [] }))
+        → hold_of (Direct s) m ≡ hold_of (Direct s) n
     by quiet s m (inl at) = i.same quiet s m at
     by quiet s m (inr (x, same, at, is)) = ap (hold_of (Direct s)) is ∙ held-other (Direct s) x h (other quiet s) ∙ i.same quiet s x at
 
@@ -235,7 +245,8 @@ Known a e L action = IsDue a e action × IsPutOver e L action
 each_act : (S : Sendings) (cast : Cast) (T place k : ℕ) (w : World) (n : Node) (by : Option Arrival) (e : NodeEvent) → MadeWell cast → IsSet (length cast.hubs) n.made → Before S cast place w k n e
     → EachAct k by (Known n.made e n.log) (KeepsGiven (AmidAll w cast T place) (Within S cast w k n e))
 each_act S cast T place k w n by e made set b = record {
-  puts = λ u name o known m i. within-same S cast w k n e u _ (G.each.puts u name o tt) (puts-nodes u k name (Message o)) (direct-puts_by S cast place w u k n e name o b m.0.knows.holds m.0.knows.at.steps known.1 i) i;
+  puts = λ u name o known m i. within-same S cast w k n e u _ (G.each.puts u name o tt) (puts-nodes u k name (Message o))
+      (direct-puts_by S cast place w u k n e name o b m.0.knows.holds m.0.knows.at.steps known.1 i) i;
   closes = λ u name m i. within-same S cast w k n e u _ (G.each.closes u name) (puts-nodes u k name Closed) (direct-closes S cast u k name i.direct) i;
   takes = λ u name a is known m. within-holds S cast w k n e u _ (leads-taken n.made e u name a.link a.way known.0) (taken_other n.made e name known.0);
   dials_as = λ u name uri t known leads m i.
@@ -250,7 +261,8 @@ each_act S cast T place k w n by e made set b = record {
     G : LetsActs k by (λ action. ⊤) Lasts
     G = Lasting.lets_acts k by
 
-direct-hears : (S : Sendings) (cast : Cast) → MadeWell cast → (T place : ℕ) (D : WorldStep) → IsCounted S place D → (w : World) (k : ℕ) (n : Node) (by : Option Arrival) (e : NodeEvent) → node_at w k ≡ Some n → Comes D w k n by e → fits n.log e ≡ true
+direct-hears : (S : Sendings) (cast : Cast) → MadeWell cast → (T place : ℕ) (D : WorldStep) → IsCounted S place D → (w : World) (k : ℕ) (n : Node) (by : Option Arrival) (e : NodeEvent)
+    → node_at w k ≡ Some n → Comes D w k n by e → fits n.log e ≡ true
     → KeepsGiven (KnowsEnds cast T place) (AllDirect S cast) w (hears k by (at_once w.now e) n w)
 direct-hears S cast made T place D sends w k n by e here come fit m i =
     (acts-after cast T place D k w n by e (Known n.made e n.log) (Within S cast w k n e) here come fit (each_act S cast T place k w n by e made (set-of cast w k n made m.0.0.1 here) before) m.0.0

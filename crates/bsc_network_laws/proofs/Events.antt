@@ -1,5 +1,6 @@
 -- The log of a node over an event of a step: the event, and then, where a word was drawn, that there is none. What each of the two
 -- keeps they keep together, and what holds of the actions of each holds of all.
+-- It serves clauses of functions of `laws`.
 use Rattle.std.proofs.Common.{◌≡◌, ◌<◌, ◌⊎◌, inl, inr, ℕ, Bool, true, false, List, [], ◌∷◌, ◌++◌, None, refl, ap, sym, subst, ◌∙◌, append_assoc}
 use Rattle.std.specs.Prelude.{◌^◌, IsTrue, if◌then◌else◌, filter_map, map}
 use Rattle.std.specs.List.{list_any}

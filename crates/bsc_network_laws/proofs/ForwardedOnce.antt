@@ -1,5 +1,6 @@
 -- After each step, each NPDU that a hub was handed in had arrived on the way up of a link to it, and no two that hubs were handed
 -- in have one place.
+-- It serves clauses of functions of `laws`.
 use Rattle.std.proofs.Common.{◌≡◌, ◌<◌, ◌⊎◌, inl, inr, ℕ, suc, Bool, true, false, List, [], ◌∷◌, ◌++◌, Option, Some, None, refl, ap, sym, subst, ◌∙◌, arith}
 use Rattle.std.specs.Prelude.{◌+◌, length, slice_get, ⊤}
 use Rattle.std.specs.Option.{option_map}
@@ -78,7 +79,15 @@ source-on u v g j f s =
     let there = g.grown s.number s.link s.here in
     let less = s.arrived in
     let more = (there.2.ways Up).arrived in
-    record { number = s.number; index = s.index; link = there.0; here = there.1; leads = there.2.to ∙ s.leads; stands = stays-at s.link.up there.0.up (there.2.ways Up) s.index _ s.stands; arrived = omega arith }
+    record {
+      number = s.number;
+      index = s.index;
+      link = there.0;
+      here = there.1;
+      leads = there.2.to ∙ s.leads;
+      stands = stays-at s.link.up there.0.up (there.2.ways Up) s.index _ s.stands;
+      arrived = omega arith;
+    }
 
 -- no forward is added
 abbrev HandsNone : World → World → Type 0
@@ -111,12 +120,20 @@ pub record IsNewest (w : World) (j caller place : ℕ) (call : Call) (i p : ℕ)
 called-split : (w : World) (j caller place : ℕ) (call : Call) (i p : ℕ) (f : Frame) → ForwardAt (called j caller place call w) i p f → ForwardAt w i p f ⊎ IsNewest w j caller place call i p f
 called-split w j caller place call i p f at = by (got-changed j (with_call w caller place call) w.hubs i at.hub at.here)
   where
-    in_hub : (h : Hub) → j ≡ i → slice_get w.hubs i ≡ Some h → (slice_get h.posted p ≡ Some at.posted) ⊎ ((p ≡ length h.posted) × (at.posted ≡ record { entry = entry_in w h caller call; sent_at = place }))
+    in_hub : (h : Hub) → j ≡ i → slice_get w.hubs i ≡ Some h → (slice_get h.posted p ≡ Some at.posted)
+        ⊎ ((p ≡ length h.posted) × (at.posted ≡ record { entry = entry_in w h caller call; sent_at = place }))
         → ForwardAt w i p f ⊎ IsNewest w j caller place call i p f
     in_hub h same here (inl old) = inl (record { hub = h; here = here; posted = at.posted; at = old; is_forward = at.is_forward })
-    in_hub h same here (inr (last, is)) = inr (record { hub = h; here = ap (slice_get w.hubs) same ∙ here; number = sym same; last = last; is = subst (λ (q : Posted). IsForward q f) is at.is_forward })
+    in_hub h same here (inr (last, is)) = inr (record {
+      hub = h;
+      here = ap (slice_get w.hubs) same ∙ here;
+      number = sym same;
+      last = last;
+      is = subst (λ (q : Posted). IsForward q f) is at.is_forward;
+    })
 
-    by : (slice_get w.hubs i ≡ Some at.hub) ⊎ ((h : Hub) × (j ≡ i) × (slice_get w.hubs i ≡ Some h) × (at.hub ≡ with_call w caller place call h)) → ForwardAt w i p f ⊎ IsNewest w j caller place call i p f
+    by : (slice_get w.hubs i ≡ Some at.hub) ⊎ ((h : Hub) × (j ≡ i) × (slice_get w.hubs i ≡ Some h) × (at.hub ≡ with_call w caller place call h)) → ForwardAt w i p f
+        ⊎ IsNewest w j caller place call i p f
     by (inl here) = inl (record { hub = at.hub; here = here; posted = at.posted; at = at.at; is_forward = at.is_forward })
     by (inr (h, same, here, is)) =
         in_hub h same here (got-last_of h.posted (record { entry = entry_in w h caller call; sent_at = place }) p at.posted (ap (λ (g : Hub). slice_get g.posted p) (sym is) ∙ at.at))
@@ -147,7 +164,8 @@ told-link : (B w : World) (l : ℕ) (e : Event) → w ≡ told l e (after_arriva
 told-link B w l e is x here =
     ap (λ (v : World). link_at v l) is
     ∙ get-changed l (λ (y : Link). record y { side = record y.side { events = y.side.events ++ e ∷ [] } }) (after_arrival l Up B).links
-    ∙ ap (option_map (λ (y : Link). record y { side = record y.side { events = y.side.events ++ e ∷ [] } })) (get-changed l (with_traffic Up without_front) B.links ∙ ap (option_map (with_traffic Up without_front)) here)
+    ∙ ap (option_map (λ (y : Link). record y { side = record y.side { events = y.side.events ++ e ∷ [] } }))
+    (get-changed l (with_traffic Up without_front) B.links ∙ ap (option_map (with_traffic Up without_front)) here)
 
 told-grows : (B w : World) (l : ℕ) (e : Event) → w ≡ told l e (after_arrival l Up B) → Grows B w
 told-grows B w l e is = let v = after_arrival l Up B in subst (Grows B) (sym is) (grows-then B v (told l e v) (grows-arrives B l Up) (grows-side v l (λ s. record s { events = s.events ++ e ∷ [] })))
@@ -163,7 +181,8 @@ told-hubs B w l e is = ap (λ (v : World). v.hubs) is
 same_message : (o p : List ℕ) (c d : ℕ) → Forward c o ≡ Forward d p → o ≡ p
 same_message o p c d h = cc
 
-fit-forwards : (B : World) → ArePutOnce B → ForwardsFit B → (w : World) (l j place : ℕ) (h : Hub) (k : Link) (m : List ℕ) (c : ℕ) → IsSide w l j h k → HasArrived w l Up (record { content = Message m; sent_at = place }) → HasJustCome B w l
+fit-forwards : (B : World) → ArePutOnce B → ForwardsFit B → (w : World) (l j place : ℕ) (h : Hub) (k : Link) (m : List ℕ) (c : ℕ) → IsSide w l j h k
+    → HasArrived w l Up (record { content = Message m; sent_at = place }) → HasJustCome B w l
     → ForwardsFit (called j l place (Forward c m) w)
 fit-forwards B put_once at_first w l j place h k m c side came (e, start) = record {
   sources = λ i p f at. source_of i p f (called-split w j l place (Forward c m) i p f at);
@@ -219,7 +238,8 @@ fit-forwards B put_once at_first w l j place h k m c side came (e, start) = reco
         let less = s.arrived in
         omega arith
 
-    apart : (i p : ℕ) (f : Frame) (o q : ℕ) (g : Frame) → ForwardAt w i p f ⊎ IsNewest w j l place (Forward c m) i p f → ForwardAt w o q g ⊎ IsNewest w j l place (Forward c m) o q g → f.sent_at ≡ g.sent_at → (i ≡ o) × (p ≡ q)
+    apart : (i p : ℕ) (f : Frame) (o q : ℕ) (g : Frame) → ForwardAt w i p f ⊎ IsNewest w j l place (Forward c m) i p f → ForwardAt w o q g ⊎ IsNewest w j l place (Forward c m) o q g
+        → f.sent_at ≡ g.sent_at → (i ≡ o) × (p ≡ q)
     apart i p f o q g (inl a) (inl b) same = at_first.once i p f o q g (old_in i p f a) (old_in o q g b) same
     apart i p f o q g (inl a) (inr b) same = absurd (not_again i p f a g (octets_of o q g b) (sym b.is.place) b.is.npdu same)
     apart i p f o q g (inr a) (inl b) same = absurd (not_again o q g b f (octets_of i p f a) (sym a.is.place) a.is.npdu (sym same))
@@ -278,7 +298,8 @@ forwards_fit B D put_once at_first = record {
         fit-kept w _ (hands-then w v _ (hands-called w j l p (Connect who) (grows-same w v refl) refl) (hands-same v _ (grows-then v u _ (grows-side v l _) (grows-side u l _)) refl));
     forwards = λ w l j place h k m c side conn came said now fits. fit-forwards B put_once at_first w l j place h k m c side came now;
     takes = λ w l j h k c f side conn is. same w _ (G.each.takes w l j h k c f side conn is) refl;
-    hears = λ w k n by e here come fit first fits. fit-kept w _ (lets-hears k by (λ action. ⊤) HandsNone (hands-acts k by) (record { now = w.now; event = e }) n w (hands-same w (goes_on_in k (record { now = w.now; event = e }) w) (grows-same w _ refl) refl) (λ action among. tt)) fits;
+    hears = λ w k n by e here come fit first fits. fit-kept w _ (lets-hears k by (λ action. ⊤) HandsNone (hands-acts k by) (record { now = w.now; event = e }) n w
+        (hands-same w (goes_on_in k (record { now = w.now; event = e }) w) (grows-same w _ refl) refl) (λ action among. tt)) fits;
     forgets = λ w later. same w _ (G.each.forgets w later) refl;
     arrives = λ w l way k x here is. same w _ (G.each.arrives w l way k x here is) refl;
     loses = λ w l. same w _ (G.each.loses w l) refl;

@@ -1,4 +1,5 @@
 -- What is delivered of an NPDU that came down from a hub came by this hub, as the theorem says it.
+-- It serves clauses of functions of `laws`.
 use Rattle.std.proofs.Common.{◌≡◌, ℕ, List, length, Some, ap, sym, subst, ◌∙◌}
 use Rattle.bsc_octets.specs.Forwarding.{out}
 use Rattle.bsc_frame.specs.declared.body.Body.TheVariants.{Npdu}
@@ -16,7 +17,8 @@ use Rattle.bsc_network_laws.specs.Ends.{messages}
 use Rattle.bsc_network_laws.specs.Passing.{IsPassedBy}
 
 -- What is delivered so of what came down a link came by the hub that the link leads to.
-pub came_by_hub : (S : Sendings) (w : World) (l j : ℕ) (h : Hub) (link : Link) (f : Frame) (p : IsPassedBy S w h.posted l f) (d : WorldDelivery) → link_at w l ≡ Some link → hub_at w j ≡ Some h → link.to ≡ ToHub j → IsAmong (messages link.down) f → link.from ≡ d.node
+pub came_by_hub : (S : Sendings) (w : World) (l j : ℕ) (h : Hub) (link : Link) (f : Frame) (p : IsPassedBy S w h.posted l f) (d : WorldDelivery) → link_at w l ≡ Some link
+    → hub_at w j ≡ Some h → link.to ≡ ToHub j → IsAmong (messages link.down) f → link.from ≡ d.node
     → f.sent_at ≡ d.sent_at → length p.2.dest.0 ≡ 6 → IsDeliveredSo p.2.from.who.vmac p.2.dest p.2.npdu d.delivered → CameByHub w p.2.sender p.2.dest d
 came_by_hub S w l j h link f (to, caller, p) d here at leads stands node place whole so =
     let octets : List ℕ = out p.frame p.from.who.vmac in

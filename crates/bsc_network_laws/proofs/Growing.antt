@@ -1,4 +1,5 @@
 -- Ways only grow: what stands on one stays at its index, no less has arrived, and no link changes its ends.
+-- It serves clauses of functions of `laws`.
 use Rattle.std.proofs.Common.{◌≡◌, ◌≢◌, ◌≤◌, ◌⊎◌, inl, inr, ℕ, true, List, [], ◌∷◌, ◌++◌, Option, Some, None, refl, ap, sym, subst, ◌∙◌, arith, append_assoc, append-nil}
 use Rattle.std.specs.Prelude.{◌+◌, slice_get, ⊤}
 use Rattle.std.specs.Option.{option_map}
@@ -144,7 +145,8 @@ grows-acts k by = record {
     puts = λ w name o known. grows-puts_by w k name (Message o);
     closes = λ w name. grows-puts_by w k name Closed;
     takes = λ w name a is known. grows-same w _ refl;
-    dials_as = λ w name uri t known leads. grows-then w (record w { links = w.links ++ new_link w k t ∷ [] }) _ (grows-longer w (new_link w k t)) (grows-same (record w { links = w.links ++ new_link w k t ∷ [] }) _ refl);
+    dials_as = λ w name uri t known leads. grows-then w (record w { links = w.links ++ new_link w k t ∷ [] }) _ (grows-longer w (new_link w k t))
+        (grows-same (record w { links = w.links ++ new_link w k t ∷ [] }) _ refl);
     fails_as = λ w name. grows-same w _ refl;
     refuses_it = λ w a is. grows-puts w a.link (other_way a.way) _;
     delivers_one = λ w d a is known. grows-same w _ refl;

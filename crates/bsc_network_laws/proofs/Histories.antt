@@ -1,4 +1,5 @@
 -- All that is known of the sides of hubs, and of their histories, at each moment of a step.
+-- It serves clauses of functions of `laws`.
 use Rattle.std.proofs.Common.{ℕ}
 use Rattle.bsc_network.specs.declared.world_step.WorldStep.{WorldStep}
 use Rattle.bsc_network.specs.declared.timed_step.TimedStep.{TimedStep}
@@ -82,11 +83,13 @@ knows_histories cast fit S T place D sends =
 
 -- ---- a step
 
-pub histories-done : (cast : Cast) → IsFit cast → (S : Sendings) (t : TimedStep) (place : ℕ) → IsCounted S place t.step → (w : World) → KnowsHistories cast S t.now place (begun w t) → KnowsHistories cast S t.now place (done w t)
+pub histories-done : (cast : Cast) → IsFit cast → (S : Sendings) (t : TimedStep) (place : ℕ) → IsCounted S place t.step → (w : World) → KnowsHistories cast S t.now place (begun w t)
+    → KnowsHistories cast S t.now place (done w t)
 histories-done cast fit S t place sends w = whole-step (Keeps (KnowsHistories cast S t.now place)) t (knows_histories cast fit S t.now place t.step sends) w
 
 -- And outboxes keep what was passed on.
-pub passes-done : (cast : Cast) → IsFit cast → (S : Sendings) (t : TimedStep) (place : ℕ) → IsCounted S place t.step → (w : World) → KnowsHistories cast S t.now place (begun w t) → PassesOn S (begun w t) → PassesOn S (done w t)
+pub passes-done : (cast : Cast) → IsFit cast → (S : Sendings) (t : TimedStep) (place : ℕ) → IsCounted S place t.step → (w : World) → KnowsHistories cast S t.now place (begun w t)
+    → PassesOn S (begun w t) → PassesOn S (done w t)
 passes-done cast fit S t place sends w known =
     (whole-step (KeepsBoth (KnowsHistories cast S t.now place) (PassesOn S)) t
     (beside_whole t.step (KnowsHistories cast S t.now place) (PassesOn S) (knows_histories cast fit S t.now place t.step sends) (passes cast S t.now place t.step)) w known).1

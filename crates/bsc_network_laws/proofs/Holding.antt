@@ -1,4 +1,5 @@
 -- Each end that a node has is one at which it hears, after each step; and no link changes its ends.
+-- It serves clauses of functions of `laws`.
 use Rattle.std.proofs.Common.{◌≡◌, ◌⊎◌, inl, inr, ℕ, true, List, [], ◌∷◌, ◌++◌, Option, Some, None, refl, ap, sym, subst, ◌∙◌}
 use Rattle.std.specs.Prelude.{◌+◌, length, slice_get, ⊤}
 use Rattle.std.specs.Option.{option_map}
@@ -94,7 +95,8 @@ keep-others u v nodes links = keep-links u v nodes (λ l way k heard. ap (λ (ls
 pub keep-log : (w : World) (k : ℕ) (event : TimedEvent) → Keep w (goes_on_in k event w)
 keep-log w k event = record { ends = λ l way j h. h; holds = λ fit j n here. by fit j n (got-changed k (λ (m : Node). record m { log = m.log ++ brings_about m.made event m.log }) w.nodes j n here) }
   where
-    by : HoldsFit w → (j : ℕ) (n : Node) → (slice_get w.nodes j ≡ Some n) ⊎ ((x : Node) × (k ≡ j) × (slice_get w.nodes j ≡ Some x) × (n ≡ record x { log = x.log ++ brings_about x.made event x.log })) → AllByRecursion (EndOf w j) n.holds
+    by : HoldsFit w → (j : ℕ) (n : Node) → (slice_get w.nodes j ≡ Some n) ⊎ ((x : Node) × (k ≡ j) × (slice_get w.nodes j ≡ Some x)
+        × (n ≡ record x { log = x.log ++ brings_about x.made event x.log })) → AllByRecursion (EndOf w j) n.holds
     by fit j n (inl at) = fit j n at
     by fit j n (inr (x, same, at, is)) = subst (λ (m : Node). AllByRecursion (EndOf w j) m.holds) (sym is) (fit j x at)
 
@@ -102,7 +104,8 @@ keep-log w k event = record { ends = λ l way j h. h; holds = λ fit j n here. b
 keep-hold : (w : World) (k : ℕ) (h : Hold) → EndOf w k h → Keep w (holds k h w)
 keep-hold w k h end = record { ends = λ l way j g. g; holds = λ fit j n here. by fit j n (got-changed k (λ (m : Node). record m { holds = m.holds ++ h ∷ [] }) w.nodes j n here) }
   where
-    by : HoldsFit w → (j : ℕ) (n : Node) → (slice_get w.nodes j ≡ Some n) ⊎ ((x : Node) × (k ≡ j) × (slice_get w.nodes j ≡ Some x) × (n ≡ record x { holds = x.holds ++ h ∷ [] })) → AllByRecursion (EndOf w j) n.holds
+    by : HoldsFit w → (j : ℕ) (n : Node) → (slice_get w.nodes j ≡ Some n) ⊎ ((x : Node) × (k ≡ j) × (slice_get w.nodes j ≡ Some x) × (n ≡ record x { holds = x.holds ++ h ∷ [] }))
+        → AllByRecursion (EndOf w j) n.holds
     by fit j n (inl at) = fit j n at
     by fit j n (inr (x, same, at, is)) =
         subst (λ (m : Node). AllByRecursion (EndOf w j) m.holds) (sym is) (all-one_more (EndOf w j) x.holds h (fit j x at) (subst (λ (i : ℕ). EndOf w i h) same end))

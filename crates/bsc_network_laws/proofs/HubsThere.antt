@@ -1,4 +1,5 @@
 -- After each step, the hub to which a link leads is there.
+-- It serves clauses of functions of `laws`.
 use Rattle.std.proofs.Common.{◌≡◌, ◌⊎◌, inl, inr, ℕ, zero, suc, ◌<◌, Bool, true, false, cond, List, [], ◌∷◌, Option, Some, None, refl, ap, sym, ◌∙◌, arith}
 use Rattle.std.specs.Prelude.{◌+◌, length, map, nat_lt, position, slice_get, ⊤}
 use Rattle.std.specs.List.{range_with_len, position_or_len}

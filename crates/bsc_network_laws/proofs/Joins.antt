@@ -1,4 +1,5 @@
 -- After each step, where a hub's side has a connection, that connection joined the hub by the number of the side's link.
+-- It serves clauses of functions of `laws`.
 use Rattle.std.proofs.Common.{◌≡◌, ◌⊎◌, inl, inr, ℕ, ◌==◌, Bool, true, false, ◌||◌, ◌&&◌, List, [], ◌∷◌, ◌++◌, Option, Some, None, option_to_list, refl, ap, sym, subst, ◌∙◌}
 use Rattle.std.specs.Prelude.{◌+◌, length, slice_get, ⊤}
 use Rattle.std.specs.List.{list_any}
@@ -177,7 +178,8 @@ lets D = record {
     stops = λ w j h here is. joined-called w j _ w.steps _;
     asks = λ w l j p h k o who side arrival said is. joined-called w j l p (Connect who);
     joins = λ w l j p h k o who c replaced side arrival said is s.
-        joined-side (with_side l (λ x. record x { conn = Some c }) (called j l p (Connect who) w)) l (λ x. record x { events = x.events ++ HasJoined ∷ [] }) (λ x. refl) (joined-joins w l j p h k who c replaced side is s);
+        joined-side (with_side l (λ x. record x { conn = Some c }) (called j l p (Connect who) w)) l (λ x. record x { events = x.events ++ HasJoined ∷ [] }) (λ x. refl)
+        (joined-joins w l j p h k who c replaced side is s);
     forwards = λ w l j p h k o c side conn arrival said. joined-called w j l p _;
     takes = λ w l j h k c f side conn is s. joined-way (with_side l (λ x. record x { taken = x.taken + 1 }) w) l Down _ (joined-side w l (λ x. record x { taken = x.taken + 1 }) (λ x. refl) s);
     hears = λ w k n by e here come fit. lets-hears k by (λ action. ⊤) Keep (lets_acts k by) _ n w (joined-same w _ refl refl) (λ action among. tt);

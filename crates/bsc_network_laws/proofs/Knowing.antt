@@ -1,5 +1,6 @@
 -- What is known at each moment of a step: its time and place, that the nodes are timely, that the ends that they have are those at
 -- which they hear, and that what comes down from hubs was taken.
+-- It serves clauses of functions of `laws`.
 use Rattle.std.proofs.Common.{◌≡◌, ◌≤◌, ◌<◌, ℕ, true, Option, Some, refl}
 use Rattle.std.specs.Prelude.{◌^◌, ⊤}
 use Rattle.bsc_node.specs.declared.node_event.NodeEvent.{NodeEvent}
@@ -92,6 +93,8 @@ pub kept-step : (Inv : World → Type 0) (t : TimedStep) (place : ℕ) → Each 
 kept-step Inv t place N w known = (lets-step (KeepsBoth (Knows t.now place) Inv) t (beside t.step (Knows t.now place) Inv (knows t.now place t.step) N) w known).1
 
 -- The same, of what each move keeps of a step that began so.
-pub kept-from : (Inv : World → Type 0) (t : TimedStep) (place : ℕ) (w : World) → EachFrom (begun w t) t.step (KeepsGiven (Knows t.now place) Inv) → Knows t.now place (begun w t) → Inv (begun w t) → Inv (done w t)
+pub kept-from : (Inv : World → Type 0) (t : TimedStep) (place : ℕ) (w : World) → EachFrom (begun w t) t.step (KeepsGiven (Knows t.now place) Inv) → Knows t.now place (begun w t)
+    → Inv (begun w t) → Inv (done w t)
 kept-from Inv t place w N known =
-    (lets-step_from (KeepsBoth (Knows t.now place) Inv) t w (beside-from (begun w t) t.step (Knows t.now place) Inv (lets-from (begun w t) t.step (Keeps (Knows t.now place)) (knows t.now place t.step)) N) known).1
+    (lets-step_from (KeepsBoth (Knows t.now place) Inv) t w (beside-from (begun w t) t.step (Knows t.now place) Inv
+    (lets-from (begun w t) t.step (Keeps (Knows t.now place)) (knows t.now place t.step)) N) known).1

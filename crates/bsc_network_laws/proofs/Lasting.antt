@@ -1,5 +1,6 @@
 -- What stands only grows: each hub, node and link stays under its number with what it is, and what it has done stays, with more
 -- behind it.
+-- It serves clauses of functions of `laws`.
 use Rattle.std.proofs.Common.{◌≡◌, ◌≢◌, ◌⊎◌, inl, inr, ℕ, List, [], ◌∷◌, ◌++◌, Option, Some, None, refl, ap, sym, subst, ◌∙◌, append_assoc, append-nil}
 use Rattle.std.specs.Prelude.{◌+◌, slice_get, ⊤}
 use Rattle.std.specs.Option.{option_map}
@@ -137,7 +138,8 @@ link-traffic Up f step x = record { from = refl; to = refl; up = step x.up; down
 link-traffic Down f step x = record { from = refl; to = refl; up = longer-none x.up.put; down = step x.down }
 
 pub lasts-puts : (w : World) (l : ℕ) (way : Way) (place : ℕ) (content : Content) → Lasts w (puts_at l way place content w)
-lasts-puts w l way place content = lasts-link w l _ (link-traffic way (and_then (record { content = content; sent_at = place })) (λ t. longer-by t.put (record { content = content; sent_at = place } ∷ [])))
+lasts-puts w l way place content = lasts-link w l _ (link-traffic way (and_then (record { content = content; sent_at = place }))
+    (λ t. longer-by t.put (record { content = content; sent_at = place } ∷ [])))
 
 pub lasts-side : (w : World) (l : ℕ) (f : HubSide → HubSide) → Lasts w (with_side l f w)
 lasts-side w l f = lasts-link w l _ (λ x. record { from = refl; to = refl; up = longer-none x.up.put; down = longer-none x.down.put })

@@ -1,4 +1,5 @@
 -- The entry of a call that may be made is lawful: each of its looks finds what was taken, and that it can find.
+-- It serves clauses of functions of `laws`.
 use Rattle.std.proofs.Common.{◌≡◌, ◌≤◌, ℕ, ◌==◌, nat_le, nat_lt, true, false, not, List, [], ◌∷◌, length, map, Option, Some, None, MatchOption, refl, ap, sym, subst, ◌∙◌, arith}
 use Rattle.std.specs.List.{list_all}
 use Rattle.std.proofs.lemmas.Bool.{and_from, and_parts, both_ways, eq-eqb, eqb-true, false_from_ne_true, le-leb, leb-false, lt-ltb}
@@ -87,7 +88,8 @@ side_took w l j h k c side legal has =
         ap (λ (z : Connection). taken_over (link_at w z.caller)) same ∙ ap (λ n. taken_over (link_at w n)) caller ∙ ap taken_over side.link
 
 -- A side can find what it took.
-pub side_finds : (w : World) (l j : ℕ) (h : Hub) (k : Link) (c : ℕ) → IsSide w l j h k → Legal h.about (history h) → HasJoinedBy h l c → JoinByLinks w → SidesFit w → LooksFit w → can_find h.about (history h) c k.side.taken ≡ true
+pub side_finds : (w : World) (l j : ℕ) (h : Hub) (k : Link) (c : ℕ) → IsSide w l j h k → Legal h.about (history h) → HasJoinedBy h l c → JoinByLinks w → SidesFit w → LooksFit w
+    → can_find h.about (history h) c k.side.taken ≡ true
 side_finds w l j h k c side legal has by fit looks = subst (λ n. can_find h.about (history h) c n ≡ true) (side_took w l j h k c side legal has) (can_find_so w j h c side.hub by fit looks)
 
 -- ---- who may connect, and when

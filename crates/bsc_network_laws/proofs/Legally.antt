@@ -1,4 +1,5 @@
 -- After each step, the history of each hub is legal; and the connection of a side whose session isn't over hasn't left.
+-- It serves clauses of functions of `laws`.
 use Rattle.std.proofs.Common.{◌≡◌, ◌≢◌, ◌⊎◌, inl, inr, ℕ, ◌==◌, nat_lt, true, false, not, ◌&&◌, List, [], ◌∷◌, ◌++◌, length, Option, Some, None, refl, ap, sym, subst, ◌∙◌}
 use Rattle.std.specs.Prelude.{◌+◌, slice_get, ⊤}
 use Rattle.std.specs.Option.{option_map}
@@ -147,15 +148,18 @@ lets_acts k by = record {
 -- ---- a call
 
 -- the histories stay legal by a lawful entry
-legal-called : (w : World) (j caller place : ℕ) (call : Call) → ((h : Hub) → hub_at w j ≡ Some h → Lawful h.about (moment (history h) (entry_in w h caller call))) → HubsAreLegal w → HubsAreLegal (called j caller place call w)
+legal-called : (w : World) (j caller place : ℕ) (call : Call) → ((h : Hub) → hub_at w j ≡ Some h → Lawful h.about (moment (history h) (entry_in w h caller call))) → HubsAreLegal w
+    → HubsAreLegal (called j caller place call w)
 legal-called w j caller place call lawful =
     all-changed_here (λ (h : Hub). Legal h.about (history h)) j (with_call w caller place call) w.hubs (λ h here legal.
     subst (Legal h.about) (sym (history-called w caller place call h)) (Legal-more h.about (history h) (entry_in w h caller call) legal (lawful h here)))
 
 -- A lawful call is made. Of a side that isn't over then, the connection was its own before, and the call isn't the side's Leave;
 -- or it is its own by this call.
-legal-calls : (w v : World) (j caller place : ℕ) (call : Call) → v.hubs ≡ (called j caller place call w).hubs → ((h : Hub) → hub_at w j ≡ Some h → Lawful h.about (moment (history h) (entry_in w h caller call)))
-    → ((l i : ℕ) (g : Hub) (k : Link) (c : ℕ) → IsSide v l i g k → k.side.conn ≡ Some c → ((x : Link) × (link_at w l ≡ Some x) × Same x k × ((caller == l) ≡ true → is_leave c call ≡ false)) ⊎ (is_of (history g) l c ≡ true))
+legal-calls : (w v : World) (j caller place : ℕ) (call : Call) → v.hubs ≡ (called j caller place call w).hubs
+    → ((h : Hub) → hub_at w j ≡ Some h → Lawful h.about (moment (history h) (entry_in w h caller call)))
+    → ((l i : ℕ) (g : Hub) (k : Link) (c : ℕ) → IsSide v l i g k → k.side.conn ≡ Some c → ((x : Link) × (link_at w l ≡ Some x) × Same x k × ((caller == l) ≡ true → is_leave c call ≡ false))
+    ⊎ (is_of (history g) l c ≡ true))
     → Keeps Legally w v
 legal-calls w v j caller place call hubs lawful before s = record {
   legal = subst (AllByRecursion (λ (h : Hub). Legal h.about (history h))) (sym hubs) (legal-called w j caller place call lawful s.legal);
@@ -172,12 +176,15 @@ legal-calls w v j caller place call hubs lawful before s = record {
         let now = stays_own y.about (history y) (entry_in w y caller call) l c legal (lawful y (ap (slice_get w.hubs) is ∙ at)) stays of in
         ap (λ (z : Hub). is_of (history z) l c) changed ∙ ap (λ H. is_of H l c) (history-called w caller place call y) ∙ now
 
-    by : (l i : ℕ) (g : Hub) (k : Link) (c : ℕ) → IsSide v l i g k → k.side.conn ≡ Some c → ((x : Link) × (link_at w l ≡ Some x) × Same x k × ((caller == l) ≡ true → is_leave c call ≡ false)) ⊎ (is_of (history g) l c ≡ true) → is_of (history g) l c ≡ true
-    by l i g k c side conn (inl (x, here, same, stays)) = at_hub l i g k x c side conn here same stays (got-changed j (with_call w caller place call) w.hubs i g (ap (λ (hs : List Hub). slice_get hs i) (sym hubs) ∙ side.hub))
+    by : (l i : ℕ) (g : Hub) (k : Link) (c : ℕ) → IsSide v l i g k → k.side.conn ≡ Some c
+        → ((x : Link) × (link_at w l ≡ Some x) × Same x k × ((caller == l) ≡ true → is_leave c call ≡ false)) ⊎ (is_of (history g) l c ≡ true) → is_of (history g) l c ≡ true
+    by l i g k c side conn (inl (x, here, same, stays)) = at_hub l i g k x c side conn here same stays
+        (got-changed j (with_call w caller place call) w.hubs i g (ap (λ (hs : List Hub). slice_get hs i) (sym hubs) ∙ side.hub))
     by l i g k c side conn (inr of) = of
 
 -- a call by which no side leaves or joins
-legal-quiet : (w : World) (j caller place : ℕ) (call : Call) → ((h : Hub) → hub_at w j ≡ Some h → Lawful h.about (moment (history h) (entry_in w h caller call))) → ((c : ℕ) → is_leave c call ≡ false) → Keeps Legally w (called j caller place call w)
+legal-quiet : (w : World) (j caller place : ℕ) (call : Call) → ((h : Hub) → hub_at w j ≡ Some h → Lawful h.about (moment (history h) (entry_in w h caller call)))
+    → ((c : ℕ) → is_leave c call ≡ false) → Keeps Legally w (called j caller place call w)
 legal-quiet w j caller place call lawful stays =
     legal-calls w (called j caller place call w) j caller place call refl lawful (λ l i g k c side conn. inl (k, side.link, (refl, λ d is. is, λ going. going), λ mine. stays c))
 
@@ -190,22 +197,26 @@ module _ (cast : Cast) (fit : IsFit cast) (T place : ℕ) where
   lawful_at w l j h k caller call m side may g here =
       lawful_of w j g caller call here m.by_links m.names.0.0.sides m.looks (subst (λ (x : Hub). may_call x.about (history x) caller call ≡ true) (some_same h g (sym side.hub ∙ here)) may)
 
-  may_connect : (w : World) (l j p : ℕ) (h : Hub) (k : Link) (m : List ℕ) (who : Identity) → KnowsSides cast T place w → IsSide w l j h k → HasArrived w l Up (record { content = Message m; sent_at = p }) → IsSaid h k m (Ask who)
+  may_connect : (w : World) (l j p : ℕ) (h : Hub) (k : Link) (m : List ℕ) (who : Identity) → KnowsSides cast T place w → IsSide w l j h k
+      → HasArrived w l Up (record { content = Message m; sent_at = p }) → IsSaid h k m (Ask who)
       → may_call h.about (history h) l (Connect who) ≡ true
   may_connect w l j p h k m who known side arrival said =
-      let own = asks_right (identity_in cast (ToNode k.from)) m p (HubPort (phase said.events)) h.about.hub.max_bvlc (standing said.events) who (fit k.from) said.is (arrived-up cast w l p k m side.link arrival known.names.1) in
+      let own = asks_right (identity_in cast (ToNode k.from)) m p (HubPort (phase said.events)) h.about.hub.max_bvlc (standing said.events) who (fit k.from) said.is
+      (arrived-up cast w l p k m side.link arrival known.names.1) in
       let address = node_address who (fit k.from who own) in
       and_from (not (same_vmac who.vmac zero_vmac) && not (same_vmac who.vmac broadcast)) (nat_lt (length (history h)) h.about.limits.calls)
       (and_from (not (same_vmac who.vmac zero_vmac)) (not (same_vmac who.vmac broadcast)) address.0 address.1) (not_worn h said.fresh)
 
-  may_forward : (w : World) (l j : ℕ) (h : Hub) (k : Link) (m : List ℕ) (c : ℕ) → Legally w → IsSide w l j h k → k.side.conn ≡ Some c → IsSaid h k m GoesUp → may_call h.about (history h) l (Forward c m) ≡ true
+  may_forward : (w : World) (l j : ℕ) (h : Hub) (k : Link) (m : List ℕ) (c : ℕ) → Legally w → IsSide w l j h k → k.side.conn ≡ Some c → IsSaid h k m GoesUp
+      → may_call h.about (history h) l (Forward c m) ≡ true
   may_forward w l j h k m c s side conn said =
       let carried = carries_by (standing said.events) (outcome_of m (HubPort (phase said.events)) h.about.hub.max_bvlc) said.is in
       let route : has_route m ≡ true = routes m (phase said.events) h.about.hub.max_bvlc carried.0 carried.1 in
       and_from (is_of (history h) l c && has_route m) (nat_lt (length (history h)) h.about.limits.calls)
       (and_from (is_of (history h) l c) (has_route m) (s.stay l j h k c side conn) route) (not_worn h said.fresh)
 
-  may_leave : (w : World) (l j : ℕ) (h : Hub) (k : Link) (c : ℕ) → KnowsSides cast T place w → Legally w → IsSide w l j h k → k.side.conn ≡ Some c → may_call h.about (history h) l (Leave c k.side.taken k.side.empties) ≡ true
+  may_leave : (w : World) (l j : ℕ) (h : Hub) (k : Link) (c : ℕ) → KnowsSides cast T place w → Legally w → IsSide w l j h k → k.side.conn ≡ Some c
+      → may_call h.about (history h) l (Leave c k.side.taken k.side.empties) ≡ true
   may_leave w l j h k c known s side conn =
       let legal : Legal h.about (history h) = all-at (λ (x : Hub). Legal x.about (history x)) w.hubs j h s.legal side.hub in
       and_from (is_of (history h) l c) (can_find h.about (history h) c k.side.taken) (s.stay l j h k c side conn)
@@ -241,10 +252,12 @@ module _ (cast : Cast) (fit : IsFit cast) (T place : ℕ) where
           no : false ≡ true → ⊥
           no e = cc
 
-  legal-joins : (w : World) (l j p : ℕ) (h : Hub) (k : Link) (m : List ℕ) (who : Identity) (c : ℕ) (replaced : Option ℕ) → IsSide w l j h k → HasArrived w l Up (record { content = Message m; sent_at = p }) → IsSaid h k m (Ask who)
+  legal-joins : (w : World) (l j p : ℕ) (h : Hub) (k : Link) (m : List ℕ) (who : Identity) (c : ℕ) (replaced : Option ℕ) → IsSide w l j h k
+      → HasArrived w l Up (record { content = Message m; sent_at = p }) → IsSaid h k m (Ask who)
       → reply_in w h (Connect who) ≡ Joined c replaced → KnowsSides cast T place w → Keeps Legally w (with_side l (λ s. record s { conn = Some c }) (called j l p (Connect who) w))
   legal-joins w l j p h k m who c replaced side arrival said is known s =
-      legal-calls w v j l p (Connect who) refl (lawful_at w l j h k l (Connect who) known side (may_connect w l j p h k m who known side arrival said)) (λ i n g x d at has. by i n g x d (one_or_two l i) at has) s
+      legal-calls w v j l p (Connect who) refl (lawful_at w l j h k l (Connect who) known side (may_connect w l j p h k m who known side arrival said))
+      (λ i n g x d at has. by i n g x d (one_or_two l i) at has) s
     where
       joined : Link → Link
       joined link = record link { side = record link.side { conn = Some c } }
@@ -290,7 +303,8 @@ module _ (cast : Cast) (fit : IsFit cast) (T place : ℕ) where
     asks = λ w l j p h k o who side arrival said is m.
         legal-quiet w j l p (Connect who) (lawful_at w l j h k l (Connect who) m side (may_connect w l j p h k o who m side arrival said)) (λ c. refl);
     joins = λ w l j p h k o who c replaced side arrival said is m s.
-        legal-side (with_side l (λ x. record x { conn = Some c }) (called j l p (Connect who) w)) l (λ x. record x { events = x.events ++ HasJoined ∷ [] }) (λ x. (refl, refl)) (legal-joins w l j p h k o who c replaced side arrival said is m s);
+        legal-side (with_side l (λ x. record x { conn = Some c }) (called j l p (Connect who) w)) l (λ x. record x { events = x.events ++ HasJoined ∷ [] }) (λ x. (refl, refl))
+        (legal-joins w l j p h k o who c replaced side arrival said is m s);
     forwards = λ w l j p h k o c side conn arrival said m s.
         legal-quiet w j l p (Forward c o) (lawful_at w l j h k l (Forward c o) m side (may_forward w l j h k o c s side conn said)) (λ d. refl) s;
     takes = λ w l j h k c f side conn is m s. legal-way (with_side l (λ x. record x { taken = x.taken + 1 }) w) l Down _ (legal-side w l (λ x. record x { taken = x.taken + 1 }) (λ x. (refl, refl)) s);

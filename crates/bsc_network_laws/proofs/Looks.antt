@@ -1,5 +1,7 @@
 -- After each step, no look at a connection found more taken from its outbox than was taken until now.
-use Rattle.std.proofs.Common.{◌≡◌, ◌≤◌, ◌⊎◌, inl, inr, ℕ, zero, suc, ◌==◌, Bool, true, false, cond, List, [], ◌∷◌, ◌++◌, find, fold, map, Option, Some, None, option_to_list, refl, ap, sym, subst, ◌∙◌, arith}
+-- It serves clauses of functions of `laws`.
+use Rattle.std.proofs.Common.{◌≡◌, ◌≤◌, ◌⊎◌, inl, inr, ℕ, zero, suc, ◌==◌, Bool, true, false, cond, List, [], ◌∷◌, ◌++◌, find, fold, map, Option, Some, None, option_to_list, refl}
+use Rattle.std.proofs.Common.{ap, sym, subst, ◌∙◌, arith}
 use Rattle.std.specs.Prelude.{◌+◌, slice_get, ⊤}
 use Rattle.std.proofs.lemmas.Bool.{eqb-true}
 use Rattle.bsc_history.specs.declared.call.Call.{Call}
@@ -180,8 +182,10 @@ looks D = record {
         let v = called j l p (Connect who) w in
         looks-quiet (with_side l (λ x. record x { conn = Some c }) v) l _ (λ s. refl) (looks-quiet v l (λ x. record x { conn = Some c }) (λ s. refl) (looks-called w j l p (Connect who) fit));
     forwards = λ w l j p h k o c side conn arrival said. looks-called w j l p _;
-    takes = λ w l j h k c f side conn is fit. looks-way (with_side l (λ x. record x { taken = x.taken + 1 }) w) l Down _ (looks-side w l (λ x. record x { taken = x.taken + 1 }) (λ s. omega arith) fit);
-    hears = λ w k n by e here come fits. lets-hears k by (λ action. ⊤) (Keeps LooksFit) (lets_acts k by) (record { now = w.now; event = e }) n w (looks-same w (goes_on_in k (record { now = w.now; event = e }) w) refl refl) (λ action among. tt);
+    takes = λ w l j h k c f side conn is fit. looks-way (with_side l (λ x. record x { taken = x.taken + 1 }) w) l Down _
+        (looks-side w l (λ x. record x { taken = x.taken + 1 }) (λ s. omega arith) fit);
+    hears = λ w k n by e here come fits. lets-hears k by (λ action. ⊤) (Keeps LooksFit) (lets_acts k by) (record { now = w.now; event = e }) n w
+        (looks-same w (goes_on_in k (record { now = w.now; event = e }) w) refl refl) (λ action among. tt);
     forgets = λ w later. looks-same w (forgets_failure later w) refl refl;
     arrives = λ w l way k x here is. looks-way w l way _;
     loses = λ w l. looks-link w l (λ link. record link { is_lost = true }) (λ x. omega arith);

@@ -1,5 +1,7 @@
 -- Who takes part in a network can say who it is, and what a node dials as its hub is a hub.
-use Rattle.std.proofs.Common.{◌≡◌, ◌≤◌, ◌<◌, ℕ, zero, suc, Bool, true, false, not, cond, List, [], ◌∷◌, ◌++◌, length, map, Option, Some, None, refl, ap, sym, subst, ◌∙◌, arith, append_assoc, length-append}
+-- It serves clauses of functions of `laws`.
+use Rattle.std.proofs.Common.{◌≡◌, ◌≤◌, ◌<◌, ℕ, zero, suc, Bool, true, false, not, cond, List, [], ◌∷◌, ◌++◌, length, map, Option, Some, None, refl, ap, sym, subst, ◌∙◌, arith}
+use Rattle.std.proofs.Common.{append_assoc, length-append}
 use Rattle.std.specs.Prelude.{◌+◌, nat_lt, slice_get, position, unwrap_or, if◌then◌else◌}
 use Rattle.std.specs.List.{AllByRecursion, position_or_len, range_with_len}
 use Rattle.std.specs.Option.{option_map, option_or}
@@ -78,7 +80,8 @@ all-set before (hub about ∷ added) number may =
 all-set before (node own direct ∷ added) number may = (
   record { before = length (hubs before); number = number; direct = direct; limits = refl; one_hub = may.0.some_hub; few = fewer before (node own direct ∷ added) },
   subst (λ (n : ℕ). AllByRecursion (IsSet (length (hubs (before ++ node own direct ∷ added)))) (nodes_after n (number + 1) added)) (sym (hubs-same before own direct))
-      (subst (λ (all : List Added). AllByRecursion (IsSet (length (hubs all))) (nodes_after (length (hubs (before ++ node own direct ∷ []))) (number + 1) added)) (append_assoc before (node own direct ∷ []) added)
+      (subst (λ (all : List Added). AllByRecursion (IsSet (length (hubs all))) (nodes_after (length (hubs (before ++ node own direct ∷ []))) (number + 1) added))
+      (append_assoc before (node own direct ∷ []) added)
       (all-set (before ++ node own direct ∷ []) added (number + 1) may.1)),
 )
 
@@ -129,7 +132,8 @@ same_itself uri = (bytes_decides uri uri).1 refl
 
 -- the URI of a hub is found
 pub hub-found : (w : World) (i : ℕ) → i < length w.hubs → (j : ℕ) × (hub_with w (hub_uri i) ≡ Some j)
-hub-found w i below = place_there (same_uri (hub_uri i)) (map hub_uri (range_with_len 0 (length w.hubs))) i (hub_uri i) (at 0 (length w.hubs) i below ∙ ap (λ (n : ℕ). Some (hub_uri n)) (none_more i)) (same_itself (hub_uri i))
+hub-found w i below = place_there (same_uri (hub_uri i)) (map hub_uri (range_with_len 0 (length w.hubs))) i (hub_uri i)
+    (at 0 (length w.hubs) i below ∙ ap (λ (n : ℕ). Some (hub_uri n)) (none_more i)) (same_itself (hub_uri i))
   where
     none_more : (n : ℕ) → 0 + n ≡ n
     none_more n = omega arith
@@ -198,7 +202,8 @@ hub_count cast w c = sym (length-mapped w.hubs) ∙ ap length c.hubs
     length-mapped (h ∷ hs) = ap suc (length-mapped hs)
 
 -- What a node dials under the name of a hub is a hub.
-pub dials-hub : (cast : Cast) (w : World) (m : Made) (e : NodeEvent) (s : Side) (uri : List ℕ) (t : Target) → MadeWell cast → Casts cast w → IsSet (length cast.hubs) m → IsDue m e (Dial (HubName s) uri) → leads_to w uri ≡ Some t → (j : ℕ) × (t ≡ ToHub j)
+pub dials-hub : (cast : Cast) (w : World) (m : Made) (e : NodeEvent) (s : Side) (uri : List ℕ) (t : Target) → MadeWell cast → Casts cast w → IsSet (length cast.hubs) m
+    → IsDue m e (Dial (HubName s) uri) → leads_to w uri ≡ Some t → (j : ℕ) × (t ≡ ToHub j)
 dials-hub cast w m e Primary uri t made c set due leads =
     let few = set.few in
     let one = set.one_hub in

@@ -1,4 +1,5 @@
 -- What holds of each move holds of what a hub's side does.
+-- It serves clauses of functions of `laws`.
 use Rattle.std.proofs.Common.{◌≡◌, ℕ, Bool, true, false, List, [], ◌∷◌, ◌++◌, Option, Some, None, refl, ap, ◌∙◌}
 use Rattle.std.specs.Prelude.{slice_get, if◌then◌else◌}
 use Rattle.bsc_octets.specs.declared.identity.Identity.{Identity}
@@ -59,7 +60,8 @@ lets-closes B D R M w l j h k side =
 
 -- ---- the machine
 
-pub lets-carries_out : (B : World) (D : WorldStep) (R : World → World → Type 0) → Lets B D R → (w : World) (l j : ℕ) (h : Hub) (k : Link) (st : Step) → IsSide w l j h k → IsWanted h.about st → R w (carries_out l st w)
+pub lets-carries_out : (B : World) (D : WorldStep) (R : World → World → Type 0) → Lets B D R → (w : World) (l j : ℕ) (h : Hub) (k : Link) (st : Step) → IsSide w l j h k → IsWanted h.about st
+    → R w (carries_out l st w)
 lets-carries_out B D R M w l j h k (Put o) side wanted = M.each.hub_puts w l j h k (Put o) o.items side wanted refl
 lets-carries_out B D R M w l j h k (PutClose o c) side wanted =
     let v = puts_now l Down (Message o.items) w in
@@ -71,7 +73,8 @@ lets-carries_out B D R M w l j h k st side wanted = M.none w
 abbrev pub with_event : Event → HubSide → HubSide
 with_event e s = record s { events = s.events ++ e ∷ [] }
 
-pub lets-tells : (B : World) (D : WorldStep) (R : World → World → Type 0) → Lets B D R → (w : World) (l j : ℕ) (h : Hub) (k : Link) (e : Event) → is_joined e ≡ false → IsJudged e → IsSide w l j h k → R w (tells l e w)
+pub lets-tells : (B : World) (D : WorldStep) (R : World → World → Type 0) → Lets B D R → (w : World) (l j : ℕ) (h : Hub) (k : Link) (e : Event) → is_joined e ≡ false → IsJudged e
+    → IsSide w l j h k → R w (tells l e w)
 lets-tells B D R M w l j h k e other judged side =
     let v = told l e w in
     lets-at R w w l j h k (λ j h link. in_order (told l e ∷ carries_out l (step_at h link e) ∷ [])) side
@@ -84,14 +87,16 @@ lets-tells B D R M w l j h k e other judged side =
 said_fresh : (h : Hub) (k : Link) (m : List ℕ) (st : Step) → IsTold h k m st → is_worn h ≡ false → IsSaid h k m st
 said_fresh h k m st said fresh = record { started = said.started; own = said.own; events = said.events; time = said.time; is = said.is; told = said.told; fresh = fresh }
 
-lets-joined : (B : World) (D : WorldStep) (R : World → World → Type 0) → Lets B D R → (w : World) (l j place : ℕ) (h : Hub) (k : Link) (m : List ℕ) (who : Identity) (c : ℕ) (replaced : Option ℕ) → IsSide w l j h k
+lets-joined : (B : World) (D : WorldStep) (R : World → World → Type 0) → Lets B D R
+    → (w : World) (l j place : ℕ) (h : Hub) (k : Link) (m : List ℕ) (who : Identity) (c : ℕ) (replaced : Option ℕ) → IsSide w l j h k
     → HasArrived w l Up (record { content = Message m; sent_at = place }) → IsSaid h k m (Ask who) → reply_in w h (Connect who) ≡ Joined c replaced
     → R w (gets_reply l (Joined c replaced) (called j l place (Connect who) w))
 lets-joined B D R M w l j place h k m who c replaced side arrived said is =
     let entered = called j l place (Connect who) w in
     let v = with_side l (λ s. record s { conn = Some c }) entered in
     let g = with_call w l place (Connect who) h in
-    let at_v : IsSide v l j g (record k { side = record k.side { conn = Some c } }) = side-side entered l j g k (λ s. record s { conn = Some c }) refl (side-called w l j place h k (Connect who) side) in
+    let at_v : IsSide v l j g (record k { side = record k.side { conn = Some c } }) =
+    side-side entered l j g k (λ s. record s { conn = Some c }) refl (side-called w l j place h k (Connect who) side) in
     let u = told l HasJoined v in
     let st = step_at g (record k { side = record k.side { conn = Some c } }) HasJoined in
     lets-at R w v l j g (record k { side = record k.side { conn = Some c } }) (λ j h link. in_order (told l HasJoined ∷ carries_out l (step_at h link HasJoined) ∷ [])) at_v
@@ -158,12 +163,14 @@ lets-receives B D R M w l j place h k m side arrived now =
     lets-at R w w l j h k (λ j h link w. hears l place m (CameToHub w.now (verdict_on h link m)) w) side
     (lets-at R w w l j h k (λ j h link. in_order (told l e ∷ acts_on l place m (step_at h link e) ∷ [])) side
     (M.then w v (acts_on l place m (step_at h k e) v) (M.each.tells w l j h k e refl side)
-    (lets-acts_on B D R M v l j place h (record k { side = with_event e k.side }) m (step_at h k e) (side-side w l j h k (with_event e) refl side) (arrived-told w l l Up e (record { content = Message m; sent_at = place }) arrived)
+    (lets-acts_on B D R M v l j place h (record k { side = with_event e k.side }) m (step_at h k e) (side-side w l j h k (with_event e) refl side)
+    (arrived-told w l l Up e (record { content = Message m; sent_at = place }) arrived)
     (record { started = start h k; own = refl; events = k.side.events; time = w.now; is = refl; told = refl }) (e, ap (told l e) now))))
 
 -- ---- a take
 
-lets-takes_next : (B : World) (D : WorldStep) (R : World → World → Type 0) → Lets B D R → (w : World) (l j : ℕ) (h : Hub) (k : Link) (c : ℕ) (f : Option Frame) (ending : Option End) → IsSide w l j h k → k.side.conn ≡ Some c
+lets-takes_next : (B : World) (D : WorldStep) (R : World → World → Type 0) → Lets B D R → (w : World) (l j : ℕ) (h : Hub) (k : Link) (c : ℕ) (f : Option Frame) (ending : Option End)
+    → IsSide w l j h k → k.side.conn ≡ Some c
     → slice_get (frames h c) k.side.taken ≡ f → R w (takes_next l f ending w)
 lets-takes_next B D R M w l j h k c (Some f) ending side conn is = M.each.takes w l j h k c f side conn is
 lets-takes_next B D R M w l j h k c None (Some ending) side conn is = lets-tells B D R M w l j h k (Ended w.now ending) refl tt side

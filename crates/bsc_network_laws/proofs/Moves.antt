@@ -1,4 +1,5 @@
 -- What a step of a network is made of: the moves, each with what is known where it is made.
+-- It serves clauses of functions of `laws`.
 use Rattle.std.proofs.Common.{◌≡◌, ◌⊎◌, ℕ, suc, Bool, true, false, List, [], ◌∷◌, ◌++◌, Option, Some, None}
 use Rattle.std.specs.Prelude.{◌+◌, slice_get}
 use Rattle.std.specs.Option.{option_map}

@@ -1,4 +1,5 @@
 -- After each step, who names itself on a way of a link is who puts on that way; and what is in outboxes names nobody.
+-- It serves clauses of functions of `laws`.
 use Rattle.std.proofs.Common.{◌≡◌, ◌<◌, inl, inr, ℕ, zero, suc, Bool, true, false, List, [], ◌∷◌, Option, Some, None, refl, ap, sym, subst, ◌∙◌}
 use Rattle.std.specs.Prelude.{◌+◌, ◌^◌, filter_map, slice_get, ⊤}
 use Rattle.std.specs.Option.{option_map}
@@ -71,18 +72,21 @@ abbrev pub IsFresh : Option Identity → Content → Type 0
 IsFresh own (Message o) = is_connect o ≡ true → (who : Identity) × (own ≡ Some who) × IsConnectOf who o
 IsFresh own content = ⊤
 
-fresh-one : (own : Option Identity) (place : ℕ) (content : Content) → IsFresh own content → AllByRecursion (IsNamedRight own) (filter_map message_of (record { content = content; sent_at = place } ∷ []))
+fresh-one : (own : Option Identity) (place : ℕ) (content : Content) → IsFresh own content
+    → AllByRecursion (IsNamedRight own) (filter_map message_of (record { content = content; sent_at = place } ∷ []))
 fresh-one own place (Message o) fresh = (fresh, tt)
 fresh-one own place Opened fresh = tt
 fresh-one own place Arrived fresh = tt
 fresh-one own place Closed fresh = tt
 
-named-more : (own : Option Identity) (place : ℕ) (content : Content) (t : Traffic) → IsFresh own content → AllByRecursion (IsNamedRight own) (messages t) → AllByRecursion (IsNamedRight own) (messages (and_then (record { content = content; sent_at = place }) t))
+named-more : (own : Option Identity) (place : ℕ) (content : Content) (t : Traffic) → IsFresh own content → AllByRecursion (IsNamedRight own) (messages t)
+    → AllByRecursion (IsNamedRight own) (messages (and_then (record { content = content; sent_at = place }) t))
 named-more own place content t fresh all =
     subst (AllByRecursion (IsNamedRight own)) (sym (filter_map-append message_of t.put (record { content = content; sent_at = place } ∷ [])))
     (all-joined (IsNamedRight own) (messages t) _ all (fresh-one own place content fresh))
 
-put-way : (cast : Cast) (way : Way) (place : ℕ) (content : Content) (x : Link) → IsFresh (identity_in cast (putter way x)) content → NamesWhoPuts cast x → NamesWhoPuts cast (with_traffic way (and_then (record { content = content; sent_at = place })) x)
+put-way : (cast : Cast) (way : Way) (place : ℕ) (content : Content) (x : Link) → IsFresh (identity_in cast (putter way x)) content → NamesWhoPuts cast x
+    → NamesWhoPuts cast (with_traffic way (and_then (record { content = content; sent_at = place })) x)
 put-way cast Up place content x fresh names = record { up = named-more (identity_in cast (putter Up x)) place content x.up fresh names.up; down = names.down }
 put-way cast Down place content x fresh names = record { up = names.up; down = named-more (identity_in cast (putter Down x)) place content x.down fresh names.down }
 
@@ -95,9 +99,11 @@ side-same : (cast : Cast) (w : World) (l : ℕ) (f : HubSide → HubSide) → Na
 side-same cast w l f = link-same cast w l (λ link. record link { side = f link.side }) (λ x names. record { up = names.up; down = names.down })
 
 -- something is put that names who puts it
-named-puts : (cast : Cast) (w : World) (l place : ℕ) (way : Way) (content : Content) → ((x : Link) → link_at w l ≡ Some x → IsFresh (identity_in cast (putter way x)) content) → Named cast w → Named cast (puts_at l way place content w)
+named-puts : (cast : Cast) (w : World) (l place : ℕ) (way : Way) (content : Content) → ((x : Link) → link_at w l ≡ Some x → IsFresh (identity_in cast (putter way x)) content) → Named cast w
+    → Named cast (puts_at l way place content w)
 named-puts cast w l place way content fresh n = record {
-  links = all-changed_here (NamesWhoPuts cast) l (with_traffic way (and_then (record { content = content; sent_at = place }))) w.links (λ x here names. put-way cast way place content x (fresh x here) names) n.links;
+  links = all-changed_here (NamesWhoPuts cast) l (with_traffic way (and_then (record { content = content; sent_at = place }))) w.links
+      (λ x here names. put-way cast way place content x (fresh x here) names) n.links;
   outboxes = n.outboxes;
 }
 
@@ -125,7 +131,8 @@ named-called cast w j caller place call plain n = record {
 -- ---- what arrived
 
 -- what stands on a way is among its messages
-pub all-messages : (P : Frame → Type 0) (xs : List Parcel) (i : ℕ) (m : List ℕ) (place : ℕ) → AllByRecursion P (filter_map message_of xs) → slice_get xs i ≡ Some (record { content = Message m; sent_at = place }) → P (record { octets = m; sent_at = place })
+pub all-messages : (P : Frame → Type 0) (xs : List Parcel) (i : ℕ) (m : List ℕ) (place : ℕ) → AllByRecursion P (filter_map message_of xs)
+    → slice_get xs i ≡ Some (record { content = Message m; sent_at = place }) → P (record { octets = m; sent_at = place })
 all-messages P [] i m place all here = cc
 all-messages P (x ∷ xs) zero m place all here = (subst (λ (y : Parcel). AllByRecursion P (filter_map message_of (y ∷ xs))) (some_same x _ here) all).0
 all-messages P (x ∷ xs) (suc i) m place all here =
@@ -153,7 +160,8 @@ all-among P (y ∷ xs) x all (inl same) = subst P (sym same) all.0
 all-among P (y ∷ xs) x all (inr later) = all-among P xs x all.1 later
 
 -- each action of the event puts nothing that names another
-node-names : (cast : Cast) (T place : ℕ) (D : WorldStep) (w : World) (k : ℕ) (n : Node) (by : Option Arrival) (e : NodeEvent) → node_at w k ≡ Some n → Comes D w k n by e → fits n.log e ≡ true → KnowsAll cast T place w
+node-names : (cast : Cast) (T place : ℕ) (D : WorldStep) (w : World) (k : ℕ) (n : Node) (by : Option Arrival) (e : NodeEvent) → node_at w k ≡ Some n → Comes D w k n by e
+    → fits n.log e ≡ true → KnowsAll cast T place w
     → (action : Action) → Among action (filter_map action_of (brings_about n.made (record { now = w.now; event = e }) n.log)) → PutsAs n.made.own action
 node-names cast T place D w k n by e here come fit known =
     by-actions (Stays n.made) (PutsAs n.made.own) w.now n.made n.log e (subst (λ t. t < 2 ^ 62) (sym known.0.at.now) known.0.at.below)
@@ -167,14 +175,16 @@ node-names cast T place D w k n by e here come fit known =
 heard-same : (w : World) (l k : ℕ) (way : Way) (x : Link) → IsHeardBy w l way k → link_at w l ≡ Some x → putter (other_way way) x ≡ ToNode k
 heard-same w l k way x heard here = putter-other way x ∙ some_same (receiver way x) (ToNode k) (sym (ap (option_map (receiver way)) here) ∙ heard)
 
-named-puts_by : (cast : Cast) (w : World) (k : ℕ) (name : LinkName) (content : Content) → HoldsFit w → IsFresh (identity_in cast (ToNode k)) content → Named cast w → Named cast (puts_by k name content w)
+named-puts_by : (cast : Cast) (w : World) (k : ℕ) (name : LinkName) (content : Content) → HoldsFit w → IsFresh (identity_in cast (ToNode k)) content → Named cast w
+    → Named cast (puts_by k name content w)
 named-puts_by cast w k name content fit fresh s = at_node (node_at w k) refl
   where
     at_hold : (n : Node) → node_at w k ≡ Some n → (o : Option Hold) → hold_of name n ≡ o → Named cast (with_found o (puts_on content) w)
     at_hold n here None is = s
     at_hold n here (Some h) is =
         named-puts cast w h.link w.steps (other_way h.hears) content
-        (λ x at. subst (λ t. IsFresh (identity_in cast t) content) (sym (heard-same w h.link k h.hears x (all-found (EndOf w k) (λ h. same_link h.name name) _ h (all-reversed (EndOf w k) n.holds (fit k n here)) is) at)) fresh) s
+        (λ x at. subst (λ t. IsFresh (identity_in cast t) content) (sym (heard-same w h.link k h.hears x
+        (all-found (EndOf w k) (λ h. same_link h.name name) _ h (all-reversed (EndOf w k) n.holds (fit k n here)) is) at)) fresh) s
 
     at_node : (o : Option Node) → node_at w k ≡ o → Named cast (with_found o (λ n. with_found (hold_of name n) (puts_on content)) w)
     at_node None is = s
@@ -202,17 +212,20 @@ named-takes : (cast : Cast) (w : World) (l j : ℕ) (h : Hub) (k : Link) (c i : 
     → Named cast (puts_at l Down f.sent_at (Message f.octets) (with_side l (λ s. record s { taken = s.taken + 1 }) w))
 named-takes cast w l j h k c i f side is s =
     let nobody = all-at (λ (g : Frame). is_connect g.octets ≡ false) (frames h c) i f (all-at OutboxesNameNobody w.hubs j h s.outboxes side.hub c) is in
-    named-puts cast (with_side l (λ x. record x { taken = x.taken + 1 }) w) l f.sent_at Down (Message f.octets) (λ x here names. absurd (not_true (is_connect f.octets) nobody names)) (side-same cast w l _ s)
+    named-puts cast (with_side l (λ x. record x { taken = x.taken + 1 }) w) l f.sent_at Down (Message f.octets) (λ x here names. absurd (not_true (is_connect f.octets) nobody names))
+    (side-same cast w l _ s)
   where
     not_true : (b : Bool) → b ≡ false → b ≡ true → ⊥
     not_true b p q = cc
 
-named-hub_puts : (cast : Cast) (w : World) (l j : ℕ) (h : Hub) (k : Link) (o : List ℕ) → IsSide w l j h k → Casts cast w → (is_connect o ≡ true → IsConnectOf h.about.hub o) → Named cast w → Named cast (puts_at l Down w.steps (Message o) w)
+named-hub_puts : (cast : Cast) (w : World) (l j : ℕ) (h : Hub) (k : Link) (o : List ℕ) → IsSide w l j h k → Casts cast w → (is_connect o ≡ true → IsConnectOf h.about.hub o) → Named cast w
+    → Named cast (puts_at l Down w.steps (Message o) w)
 named-hub_puts cast w l j h k o side c right =
     named-puts cast w l w.steps Down (Message o) (λ x here names.
     (h.about.hub, ap (identity_in cast) (ap (λ (y : Link). y.to) (some_same x k (sym here ∙ side.link)) ∙ side.leads) ∙ hub-identity cast w j h c side.hub, right names))
 
-forwards-plain : (cast : Cast) (w : World) (l j place : ℕ) (h : Hub) (k : Link) (m : List ℕ) → IsSide w l j h k → HasArrived w l Up (record { content = Message m; sent_at = place }) → IsSaid h k m GoesUp → Named cast w → is_connect m ≡ false
+forwards-plain : (cast : Cast) (w : World) (l j place : ℕ) (h : Hub) (k : Link) (m : List ℕ) → IsSide w l j h k → HasArrived w l Up (record { content = Message m; sent_at = place })
+    → IsSaid h k m GoesUp → Named cast w → is_connect m ≡ false
 forwards-plain cast w l j place h k m side arrival said s = by (is_connect m) refl
   where
     by : (b : Bool) → is_connect m ≡ b → is_connect m ≡ false
@@ -230,7 +243,8 @@ named_stays cast T place D = record {
   leaves = λ w l j h k c side conn m. named-called cast w j l w.steps _ tt;
   stops = λ w j h here is m. named-called cast w j _ w.steps _ tt;
   asks = λ w l j p h k o who side arrival said is m. named-called cast w j l p (Connect who) tt;
-  joins = λ w l j p h k o who c replaced side arrival said is m s. side-same cast (with_side l (λ x. record x { conn = Some c }) (called j l p (Connect who) w)) l _ (side-same cast (called j l p (Connect who) w) l _ (named-called cast w j l p (Connect who) tt s));
+  joins = λ w l j p h k o who c replaced side arrival said is m s. side-same cast (with_side l (λ x. record x { conn = Some c }) (called j l p (Connect who) w)) l _
+      (side-same cast (called j l p (Connect who) w) l _ (named-called cast w j l p (Connect who) tt s));
   forwards = λ w l j p h k o c side conn arrival said m s. named-called cast w j l p (Forward c o) (forwards-plain cast w l j p h k o side arrival said s) s;
   takes = λ w l j h k c f side conn is m. named-takes cast w l j h k c k.side.taken f side is;
   hears = λ w k n by e here come fit m.

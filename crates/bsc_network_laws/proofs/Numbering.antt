@@ -1,4 +1,5 @@
 -- Who stays a caller's own by one entry more, and who has joined still when other entries come behind.
+-- It serves clauses of functions of `laws`.
 use Rattle.std.proofs.Common.{◌≡◌, inl, inr, ℕ, ◌==◌, true, false, ◌&&◌, List, [], ◌∷◌, ◌++◌, filter, option_to_list}
 use Rattle.std.proofs.lemmas.Bool.{and_parts, eqb-true}
 use Rattle.bsc_history.specs.declared.limits.About.{About}
@@ -11,9 +12,11 @@ use Rattle.bsc_history.proofs.Lifting.{stays}
 use Rattle.bsc_history.proofs.Lists.{In, In-append, In-left, In-right}
 
 -- What a caller joined and didn't leave stays so by an entry that isn't its own Leave.
-pub stays_own : (a : About) (H : List Entry) (e : Entry) (p c : ℕ) → Legal a H → Lawful a (moment H e) → ((e.caller == p) ≡ true → leaves c e ≡ false) → is_of H p c ≡ true → is_of (H ++ e ∷ []) p c ≡ true
+pub stays_own : (a : About) (H : List Entry) (e : Entry) (p c : ℕ) → Legal a H → Lawful a (moment H e) → ((e.caller == p) ≡ true → leaves c e ≡ false) → is_of H p c ≡ true
+    → is_of (H ++ e ∷ []) p c ≡ true
 stays_own a H e p c legal lawful stay of =
-    stays a p c (λ x. (x.number == c) && (x.caller == p)) (λ x h. let two = and_parts (x.number == c) (x.caller == p) h in (eqb-true x.caller p two.1, eqb-true x.number c two.0)) H e legal lawful stay of
+    stays a p c (λ x. (x.number == c) && (x.caller == p)) (λ x h. let two = and_parts (x.number == c) (x.caller == p) h in
+    (eqb-true x.caller p two.1, eqb-true x.number c two.0)) H e legal lawful stay of
 
 -- Who has joined has joined still, when other entries come behind.
 pub joined_longer : (G es : List Entry) (x : Connection) → In x (joined G) → In x (joined (G ++ es))

@@ -1,5 +1,6 @@
 -- After each step, what a node has under the name of a hub leads to a hub, and the peer of a direct connection is who is at its other
 -- end.
+-- It serves clauses of functions of `laws`.
 use Rattle.std.proofs.Common.{◌≡◌, ◌<◌, ◌⊎◌, inl, inr, ℕ, Bool, true, false, cond, List, [], ◌∷◌, ◌++◌, length, Option, Some, None, refl, ap, sym, subst, ◌∙◌}
 use Rattle.std.specs.Prelude.{◌^◌, ◌==◌, is_some, filter_map, find, map, slice_get, ⊤}
 use Rattle.std.specs.Option.{option_map}
@@ -257,7 +258,8 @@ names-on cast Up x names = names.up
 names-on cast Down x names = names.down
 
 -- Who names itself by what comes is who is at the other end.
-named-there : (cast : Cast) (D : WorldStep) (w : World) (k : ℕ) (n : Node) (by : Option Arrival) (e : NodeEvent) (name : LinkName) (who : Identity) → MadeWell cast → Named cast w → Comes D w k n by e → IsNamedBy e name who
+named-there : (cast : Cast) (D : WorldStep) (w : World) (k : ℕ) (n : Node) (by : Option Arrival) (e : NodeEvent) (name : LinkName) (who : Identity) → MadeWell cast → Named cast w
+    → Comes D w k n by e → IsNamedBy e name who
     → who_is_there cast w name n ≡ Some who
 named-there cast D w k n by e name who made named come h = ap (who_is cast) (came-end w k n name h.octets by c) ∙ by_name (is_connect h.octets) refl
   where
@@ -280,15 +282,18 @@ named-there cast D w k n by e name who made named come h = ap (who_is cast) (cam
 pub hubs-log : (w : World) (k T : ℕ) (e : NodeEvent) → HubsLead w → HubsLead (goes_on_in k (at_once T e) w)
 hubs-log w k T e all j n here = by (got-changed k (λ (m : Node). record m { log = m.log ++ brings_about m.made (at_once T e) m.log }) w.nodes j n here)
   where
-    by : (slice_get w.nodes j ≡ Some n) ⊎ ((x : Node) × (k ≡ j) × (slice_get w.nodes j ≡ Some x) × (n ≡ record x { log = x.log ++ brings_about x.made (at_once T e) x.log })) → AllByRecursion (LeadsToHub w) n.holds
+    by : (slice_get w.nodes j ≡ Some n) ⊎ ((x : Node) × (k ≡ j) × (slice_get w.nodes j ≡ Some x) × (n ≡ record x { log = x.log ++ brings_about x.made (at_once T e) x.log }))
+        → AllByRecursion (LeadsToHub w) n.holds
     by (inl at) = all j n at
     by (inr (x, same, at, is)) = subst (λ (m : Node). AllByRecursion (LeadsToHub w) m.holds) (sym is) (all j x at)
 
 peers-log : (cast : Cast) (w : World) (k T : ℕ) (n : Node) (e : NodeEvent) → node_at w k ≡ Some n
-    → ((s : ℕ) (who : Identity) → peer (n.log ++ brings_about n.made (at_once T e) n.log) (Direct s) ≡ Some who → who_is_there cast w (Direct s) n ≡ Some who) → PeersRight cast w → PeersRight cast (goes_on_in k (at_once T e) w)
+    → ((s : ℕ) (who : Identity) → peer (n.log ++ brings_about n.made (at_once T e) n.log) (Direct s) ≡ Some who → who_is_there cast w (Direct s) n ≡ Some who) → PeersRight cast w
+    → PeersRight cast (goes_on_in k (at_once T e) w)
 peers-log cast w k T n e here now all j m s who at is = by (got-changed k (λ (x : Node). record x { log = x.log ++ brings_about x.made (at_once T e) x.log }) w.nodes j m at)
   where
-    by : (slice_get w.nodes j ≡ Some m) ⊎ ((x : Node) × (k ≡ j) × (slice_get w.nodes j ≡ Some x) × (m ≡ record x { log = x.log ++ brings_about x.made (at_once T e) x.log })) → who_is_there cast w (Direct s) m ≡ Some who
+    by : (slice_get w.nodes j ≡ Some m) ⊎ ((x : Node) × (k ≡ j) × (slice_get w.nodes j ≡ Some x) × (m ≡ record x { log = x.log ++ brings_about x.made (at_once T e) x.log }))
+        → who_is_there cast w (Direct s) m ≡ Some who
     by (inl before) = all j m s who before is
     by (inr (x, same, before, to)) =
         let one : x ≡ n = some_same x n (sym before ∙ ap (λ (i : ℕ). slice_get w.nodes i) (sym same) ∙ here) in
@@ -304,8 +309,10 @@ log-log w k T n e here m at = ap (λ (y : Node). y.log) (some_same m (longer n) 
 -- ---- the actions of an event
 
 -- An event that comes to a node keeps what its actions keep, from where the node's log went on.
-pub acts-after : (cast : Cast) (T place : ℕ) (D : WorldStep) (k : ℕ) (w : World) (n : Node) (by : Option Arrival) (e : NodeEvent) (Of : Action → Type 0) (Inv : World → Type 0) → node_at w k ≡ Some n → Comes D w k n by e → fits n.log e ≡ true
-    → EachAct k by Of (KeepsGiven (AmidAll w cast T place) Inv) → KnowsAll cast T place w → ((action : Action) → Among action (filter_map action_of (brings_about n.made (at_once w.now e) n.log)) → Of action)
+pub acts-after : (cast : Cast) (T place : ℕ) (D : WorldStep) (k : ℕ) (w : World) (n : Node) (by : Option Arrival) (e : NodeEvent) (Of : Action → Type 0) (Inv : World → Type 0)
+    → node_at w k ≡ Some n → Comes D w k n by e → fits n.log e ≡ true
+    → EachAct k by Of (KeepsGiven (AmidAll w cast T place) Inv) → KnowsAll cast T place w
+    → ((action : Action) → Among action (filter_map action_of (brings_about n.made (at_once w.now e) n.log)) → Of action)
     → Inv (goes_on_in k (at_once w.now e) w) → Inv (hears k by (at_once w.now e) n w)
 acts-after cast T place D k w n by e Of Inv here come fit N known of =
     (acts_each k by Of (KeepsBoth (AmidAll w cast T place) Inv) (acts-beside k by Of (AmidAll w cast T place) Inv (amid_all cast T place D k w n by e come) N)
@@ -340,25 +347,29 @@ dials-it s uri = ap (λ (b : Bool). is_some {T = Bool} (cond b (Some false) None
 pub leads-taken : (a : Made) (e : NodeEvent) (u : World) (name : LinkName) (l : ℕ) (way : Way) → IsDue a e (Take name) → LeadsToHub u (record { name = name; link = l; hears = way })
 leads-taken a e u name l way due s is = absurd (subst (λ (x : LinkName). IsDue a e (Take x)) is due)
 
-pub leads-dialled : (cast : Cast) (k : ℕ) (a : Made) (e : NodeEvent) (u : World) (name : LinkName) (uri : List ℕ) (t : Target) → MadeWell cast → Casts cast u → IsSet (length cast.hubs) a → IsDue a e (Dial name uri) → leads_to u uri ≡ Some t
+pub leads-dialled : (cast : Cast) (k : ℕ) (a : Made) (e : NodeEvent) (u : World) (name : LinkName) (uri : List ℕ) (t : Target) → MadeWell cast → Casts cast u → IsSet (length cast.hubs) a
+    → IsDue a e (Dial name uri) → leads_to u uri ≡ Some t
     → LeadsToHub (record u { links = u.links ++ new_link u k t ∷ [] }) (record { name = name; link = length u.links; hears = Down })
 leads-dialled cast k a e u name uri t made c set due leads s is =
     let hub = dials-hub cast u a e s uri t made c set (subst (λ (x : LinkName). IsDue a e (Dial x uri)) is due) leads in
     (hub.0, ap (option_map (putter Down)) (got-last u.links (new_link u k t)) ∙ ap Some hub.1)
 
-within-takes : (cast : Cast) (k : ℕ) (a : Made) (e : NodeEvent) (L : Log) (u : World) (name : LinkName) (l : ℕ) (way : Way) → Known a e L (Take name) → Within cast k L u → Within cast k L (holds k (record { name = name; link = l; hears = way }) u)
+within-takes : (cast : Cast) (k : ℕ) (a : Made) (e : NodeEvent) (L : Log) (u : World) (name : LinkName) (l : ℕ) (way : Way) → Known a e L (Take name) → Within cast k L u
+    → Within cast k L (holds k (record { name = name; link = l; hears = way }) u)
 within-takes cast k a e L u name l way known =
     within-holds cast k L u (record { name = name; link = l; hears = way }) (leads-taken a e u name l way known.0)
     (λ s is. known.1 s (ap (λ (x : LinkName). begins (Direct s) (did (Take x))) is ∙ takes-it s))
 
-within-dials : (cast : Cast) (k : ℕ) (a : Made) (e : NodeEvent) (L : Log) (u : World) (name : LinkName) (uri : List ℕ) (t : Target) → MadeWell cast → Casts cast u → IsSet (length cast.hubs) a → Known a e L (Dial name uri) → leads_to u uri ≡ Some t
+within-dials : (cast : Cast) (k : ℕ) (a : Made) (e : NodeEvent) (L : Log) (u : World) (name : LinkName) (uri : List ℕ) (t : Target) → MadeWell cast → Casts cast u
+    → IsSet (length cast.hubs) a → Known a e L (Dial name uri) → leads_to u uri ≡ Some t
     → Within cast k L u → Within cast k L (dials k name t u)
 within-dials cast k a e L u name uri t made c set known leads i =
     let v : World = record u { links = u.links ++ new_link u k t ∷ [] } in
     within-holds cast k L v (record { name = name; link = length u.links; hears = Down }) (leads-dialled cast k a e u name uri t made c set known.0 leads)
     (λ s is. known.1 s (ap (λ (x : LinkName). begins (Direct s) (did (Dial x uri))) is ∙ dials-it s uri)) (within-same cast k L u v (lasts-longer u (new_link u k t)) refl i)
 
-each_act : (cast : Cast) (T place k : ℕ) (w : World) (by : Option Arrival) (a : Made) (e : NodeEvent) (L : Log) → MadeWell cast → IsSet (length cast.hubs) a → EachAct k by (Known a e L) (KeepsGiven (AmidAll w cast T place) (Within cast k L))
+each_act : (cast : Cast) (T place k : ℕ) (w : World) (by : Option Arrival) (a : Made) (e : NodeEvent) (L : Log) → MadeWell cast → IsSet (length cast.hubs) a
+    → EachAct k by (Known a e L) (KeepsGiven (AmidAll w cast T place) (Within cast k L))
 each_act cast T place k w by a e L made set = record {
   puts = λ u name o known m. within-same cast k L u _ (G.each.puts u name o tt) (puts-nodes u k name (Message o));
   closes = λ u name m. within-same cast k L u _ (G.each.closes u name) (puts-nodes u k name Closed);
@@ -377,7 +388,8 @@ set-of cast w k n made c here =
     all-at (IsSet (length cast.hubs)) (map (λ (x : Node). x.made) w.nodes) k n.made (subst (AllByRecursion (IsSet (length cast.hubs))) (sym c.nodes) made.set)
     (slice_get-map (λ (x : Node). x.made) w.nodes k ∙ ap (option_map (λ (x : Node). x.made)) here)
 
-ends-hears : (cast : Cast) → MadeWell cast → (T place : ℕ) (D : WorldStep) (w : World) (k : ℕ) (n : Node) (by : Option Arrival) (e : NodeEvent) → node_at w k ≡ Some n → Comes D w k n by e → fits n.log e ≡ true
+ends-hears : (cast : Cast) → MadeWell cast → (T place : ℕ) (D : WorldStep) (w : World) (k : ℕ) (n : Node) (by : Option Arrival) (e : NodeEvent) → node_at w k ≡ Some n → Comes D w k n by e
+    → fits n.log e ≡ true
     → KeepsGiven (KnowsNames cast T place) (EndsRight cast) w (hears k by (at_once w.now e) n w)
 ends-hears cast made T place D w k n by e here come fit m i =
     (acts-after cast T place D k w n by e (Known n.made e L) (Within cast k L) here come fit (each_act cast T place k w by n.made e L made (set-of cast w k n made m.0.1 here)) m.0
@@ -412,7 +424,8 @@ ends-hears cast made T place D w k n by e here come fit m i =
     now : (s : ℕ) (who : Identity) → peer L (Direct s) ≡ Some who → who_is_there cast w (Direct s) n ≡ Some who
     now s who h = then_there s who (on s who h).0
 
-    alone : (s : ℕ) (action : Action) → Among action (filter_map action_of (brings_about n.made (at_once w.now e) n.log)) → begins (Direct s) (did action) ≡ true → (o : Option Identity) → peer L (Direct s) ≡ o → peer L (Direct s) ≡ None
+    alone : (s : ℕ) (action : Action) → Among action (filter_map action_of (brings_about n.made (at_once w.now e) n.log)) → begins (Direct s) (did action) ≡ true → (o : Option Identity)
+        → peer L (Direct s) ≡ o → peer L (Direct s) ≡ None
     alone s action among begun None is = is
     alone s action among begun (Some who) is =
         both_ways (list_any (begins (Direct s)) (brings_about n.made (at_once w.now e) n.log)) (unbegun (Direct s) (brings_about n.made (at_once w.now e) n.log) action among begun) (on s who is).1
@@ -452,5 +465,7 @@ knows_ends cast made T place D =
     together D (KnowsNames cast T place) (EndsRight cast) (together D (KnowsAll cast T place) (Named cast) (knows_all cast T place D) (named_stays cast T place D)) (ends_stay cast made T place D)
 
 -- What each move keeps where this is known, a step keeps.
-pub kept-ends : (cast : Cast) → MadeWell cast → (It : World → Type 0) (t : TimedStep) (place : ℕ) → Each t.step (KeepsGiven (KnowsEnds cast t.now place) It) → (w : World) → KnowsEnds cast t.now place (begun w t) → It (begun w t) → It (done w t)
-kept-ends cast made It t place N w known = (lets-step (KeepsBoth (KnowsEnds cast t.now place) It) t (beside t.step (KnowsEnds cast t.now place) It (knows_ends cast made t.now place t.step) N) w known).1
+pub kept-ends : (cast : Cast) → MadeWell cast → (It : World → Type 0) (t : TimedStep) (place : ℕ) → Each t.step (KeepsGiven (KnowsEnds cast t.now place) It) → (w : World)
+    → KnowsEnds cast t.now place (begun w t) → It (begun w t) → It (done w t)
+kept-ends cast made It t place N w known = (lets-step (KeepsBoth (KnowsEnds cast t.now place) It) t
+    (beside t.step (KnowsEnds cast t.now place) It (knows_ends cast made t.now place t.step) N) w known).1

@@ -1,4 +1,5 @@
 -- Where no two forwards of NPDUs have one place, no two NPDUs that entered an outbox have, and none that were taken from it.
+-- It serves clauses of functions of `laws`.
 use Rattle.std.proofs.Common.{◌≡◌, ◌≢◌, ◌⊎◌, inl, inr, ℕ, zero, suc, Bool, true, false, cond, List, [], ◌∷◌, ◌++◌, Some, refl, ap, sym, subst, ◌∙◌, append_assoc, append-nil}
 use Rattle.std.specs.Prelude.{◌&&◌, ◌==◌, length, map, filter_map, take, slice_get}
 use Rattle.std.specs.List.{AllByRecursion, list_any}
@@ -55,7 +56,8 @@ all-npdus P (f ∷ fs) all = by (all-npdus P fs) (is_npdu f.octets) refl all
     no : false ≡ true → ⊥
     no h = cc
 
-    by : (AllByRecursion P (npdus fs) → AllByRecursion (λ (f : Frame). is_npdu f.octets ≡ true → P f) fs) → (b : Bool) → is_npdu f.octets ≡ b → P_one P b f (npdus fs) → AllByRecursion (λ (f : Frame). is_npdu f.octets ≡ true → P f) (f ∷ fs)
+    by : (AllByRecursion P (npdus fs) → AllByRecursion (λ (f : Frame). is_npdu f.octets ≡ true → P f) fs) → (b : Bool) → is_npdu f.octets ≡ b → P_one P b f (npdus fs)
+        → AllByRecursion (λ (f : Frame). is_npdu f.octets ≡ true → P f) (f ∷ fs)
     by rest true is all = (λ npdu. all.0, rest all.1)
     by rest false is all = (λ npdu. absurd (no (sym is ∙ npdu)), rest all)
 
@@ -102,7 +104,8 @@ messages-split : (x : Parcel) (xs : List Parcel) → npdus (filter_map message_o
 messages-split x xs = ap npdus (filter_map-append message_of (x ∷ []) xs) ∙ filter-append (λ (f : Frame). is_npdu f.octets) (filter_map message_of (x ∷ [])) (filter_map message_of xs)
 
 -- the first of a way has another place than each behind it
-first-differs : (xs : List Parcel) (f : Frame) → is_npdu f.octets ≡ true → Different (npdus (filter_map message_of (record { content = Message f.octets; sent_at = f.sent_at } ∷ xs))) → AllByRecursion (λ (g : Frame). f.sent_at ≢ g.sent_at) (npdus (filter_map message_of xs))
+first-differs : (xs : List Parcel) (f : Frame) → is_npdu f.octets ≡ true → Different (npdus (filter_map message_of (record { content = Message f.octets; sent_at = f.sent_at } ∷ xs)))
+    → AllByRecursion (λ (g : Frame). f.sent_at ≢ g.sent_at) (npdus (filter_map message_of xs))
 first-differs xs f npdu all = by (is_npdu f.octets) npdu all
   where
     rest : List Frame
@@ -116,7 +119,8 @@ first-differs xs f npdu all = by (is_npdu f.octets) npdu all
     by false is all = absurd (no is)
 
 -- NPDUs of one place are at one index of a way on which no two have one place.
-pub one-index : (xs : List Parcel) (i j : ℕ) (f g : Frame) → Different (npdus (filter_map message_of xs)) → IsMessageAt xs i f → is_npdu f.octets ≡ true → IsMessageAt xs j g → is_npdu g.octets ≡ true → f.sent_at ≡ g.sent_at → i ≡ j
+pub one-index : (xs : List Parcel) (i j : ℕ) (f g : Frame) → Different (npdus (filter_map message_of xs)) → IsMessageAt xs i f → is_npdu f.octets ≡ true → IsMessageAt xs j g
+    → is_npdu g.octets ≡ true → f.sent_at ≡ g.sent_at → i ≡ j
 one-index [] i j f g all a p b q same = cc
 one-index (x ∷ xs) zero zero f g all a p b q same = refl
 one-index (x ∷ xs) zero (suc j) f g all a p b q same =
@@ -126,7 +130,8 @@ one-index (x ∷ xs) (suc i) zero f g all a p b q same =
     let first : x ≡ record { content = Message g.octets; sent_at = g.sent_at } = some_same x _ b in
     absurd (npdu-at (λ (h : Frame). g.sent_at ≢ h.sent_at) xs i f (first-differs xs g q (subst (λ (y : Parcel). Different (npdus (filter_map message_of (y ∷ xs)))) first all)) a p (sym same))
 one-index (x ∷ xs) (suc i) (suc j) f g all a p b q same =
-    ap suc (one-index xs i j f g (apart-right (λ (h : Frame). h.sent_at) (npdus (filter_map message_of (x ∷ []))) (npdus (filter_map message_of xs)) (subst Different (messages-split x xs) all)) a p b q same)
+    ap suc (one-index xs i j f g (apart-right (λ (h : Frame). h.sent_at) (npdus (filter_map message_of (x ∷ []))) (npdus (filter_map message_of xs))
+    (subst Different (messages-split x xs) all)) a p b q same)
 
 -- ---- what an entry adds
 
@@ -184,7 +189,8 @@ pub record IsEntered (G : List Entry) (c : ℕ) (posted : List Posted) (f : Fram
   pub place : f.sent_at ≡ frame.sent_at
   pub to : IsLiveAs (G ++ entries before) c
 
-entered-first : (a : About) (G : List Entry) (c : ℕ) (p : Posted) (posted : List Posted) → Adds a G c p → (v : Vmac) (m : List ℕ) → (sender : ℕ) → p.entry.call ≡ Forward sender m → is_npdu (out m v) ≡ true
+entered-first : (a : About) (G : List Entry) (c : ℕ) (p : Posted) (posted : List Posted) → Adds a G c p → (v : Vmac) (m : List ℕ) → (sender : ℕ) → p.entry.call ≡ Forward sender m
+    → is_npdu (out m v) ≡ true
     → IsEntered G c (p ∷ posted) (record { octets = out m v; sent_at = p.sent_at })
 entered-first a G c p posted adds v m sender call npdu = record {
   before = [];
@@ -220,7 +226,8 @@ all-entered a G c (p ∷ posted) = by (all-entered a (G ++ p.entry ∷ []) c pos
     later : AllByRecursion (IsEntered (G ++ p.entry ∷ []) c posted) (npdus rest) → AllByRecursion (IsEntered G c (p ∷ posted)) (npdus rest)
     later all = all-mapped (IsEntered (G ++ p.entry ∷ []) c posted) (IsEntered G c (p ∷ posted)) (entered-later G c p posted) (npdus rest) all
 
-    by : AllByRecursion (IsEntered (G ++ p.entry ∷ []) c posted) (npdus rest) → (frames_by a G c p ≡ []) ⊎ Adds a G c p → AllByRecursion (IsEntered G c (p ∷ posted)) (npdus (frames_by a G c p ++ rest))
+    by : AllByRecursion (IsEntered (G ++ p.entry ∷ []) c posted) (npdus rest) → (frames_by a G c p ≡ []) ⊎ Adds a G c p
+        → AllByRecursion (IsEntered G c (p ∷ posted)) (npdus (frames_by a G c p ++ rest))
     by all (inl none) = subst (λ (fs : List Frame). AllByRecursion (IsEntered G c (p ∷ posted)) (npdus (fs ++ rest))) (sym none) (later all)
     by all (inr adds) =
         subst (λ (fs : List Frame). AllByRecursion (IsEntered G c (p ∷ posted)) (npdus (fs ++ rest))) (sym adds.frame)

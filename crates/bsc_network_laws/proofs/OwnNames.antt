@@ -1,5 +1,6 @@
 -- Which octets name somebody: what a hub puts of itself is a Connect-Accept of its own or names nobody, and what it carries names
 -- nobody.
+-- It serves clauses of functions of `laws`.
 use Rattle.std.proofs.Common.{◌≡◌, inl, inr, ℕ, Bool, true, false, not, cond, ◌&&◌, List, [], ◌∷◌, Option, Some, None, refl, ap, sym, subst, ◌∙◌}
 use Rattle.std.specs.Prelude.{map, ⊤}
 use Rattle.std.specs.List.{AllByRecursion, list_any}
@@ -219,9 +220,11 @@ plain-if : (b : Bool) (o : List ℕ) → is_connect o ≡ false → AllByRecursi
 plain-if true o h = (h, tt)
 plain-if false o h = tt
 
-plain-added : (a : About) (G : List Entry) (entered : List (List ℕ)) (c : ℕ) (call : Call) (looks : List Look) → IsPlain call → AllByRecursion (λ o. is_connect o ≡ false) (added_by a G entered c call looks)
+plain-added : (a : About) (G : List Entry) (entered : List (List ℕ)) (c : ℕ) (call : Call) (looks : List Look) → IsPlain call
+    → AllByRecursion (λ o. is_connect o ≡ false) (added_by a G entered c call looks)
 unfolding added_by
-plain-added a G entered c (Forward sender m) looks plain = plain-if (is_live G sender && list_any (takes a (out_of G sender m) entered looks c) (meant G sender m)) (out_of G sender m) (connect-out m _ ∙ plain)
+plain-added a G entered c (Forward sender m) looks plain = plain-if (is_live G sender && list_any (takes a (out_of G sender m) entered looks c) (meant G sender m)) (out_of G sender m)
+    (connect-out m _ ∙ plain)
 plain-added a G entered c call looks plain = tt
 
 placed : (place : ℕ) (os : List (List ℕ)) → AllByRecursion (λ o. is_connect o ≡ false) os → AllByRecursion (λ (f : Frame). is_connect f.octets ≡ false) (map (at_place place) os)

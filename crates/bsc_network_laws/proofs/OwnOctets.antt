@@ -1,4 +1,5 @@
 -- What a hub puts of itself is no Encapsulated-NPDU.
+-- It serves clauses of functions of `laws`.
 use Rattle.std.proofs.Common.{◌≡◌, ℕ, false, List, Some, ap, sym, subst, ◌∙◌}
 use Rattle.bsc_octets.specs.Functions.{is_npdu}
 use Rattle.bsc_history.specs.declared.limits.About.{About}

@@ -1,6 +1,8 @@
 -- After each step, each NPDU in an outbox was passed on to its connection: it is that of a Send of the node that dialled the
 -- sender's link, and meant for a connection that was live then.
-use Rattle.std.proofs.Common.{◌≡◌, ◌<◌, ◌⊎◌, inl, inr, ℕ, ◌==◌, nat_le, Bool, true, false, not, cond, ◌&&◌, ◌||◌, List, [], ◌∷◌, ◌++◌, filter, length, map, Option, Some, None, refl, ap, sym, subst, ◌∙◌, append_assoc}
+-- It serves clauses of functions of `laws`.
+use Rattle.std.proofs.Common.{◌≡◌, ◌<◌, ◌⊎◌, inl, inr, ℕ, ◌==◌, nat_le, Bool, true, false, not, cond, ◌&&◌, ◌||◌, List, [], ◌∷◌, ◌++◌, filter, length, map, Option, Some, None}
+use Rattle.std.proofs.Common.{refl, ap, sym, subst, ◌∙◌, append_assoc}
 use Rattle.std.specs.Prelude.{◌^◌, slice_get, ⊤}
 use Rattle.std.specs.Option.{option_map}
 use Rattle.std.specs.List.{AllByRecursion, list_any}
@@ -93,7 +95,8 @@ all_unfiltered P q (x ∷ xs) all = (let two = if_cons P (q x) x (filter q xs) a
 abbrev DiallersStay : World → World → Type 0
 DiallersStay u v = (l k : ℕ) → option_map (λ (x : Link). x.from) (link_at u l) ≡ Some k → option_map (λ (x : Link). x.from) (link_at v l) ≡ Some k
 
-passed_later : (S : Sendings) (u v : World) → DiallersStay u v → (posted grown later : List Posted) (to : Connection) (f : Frame) (p : IsPassedOn S u posted to f) → grown ≡ p.before ++ p.forward ∷ later → IsPassedOn S v grown to f
+passed_later : (S : Sendings) (u v : World) → DiallersStay u v → (posted grown later : List Posted) (to : Connection) (f : Frame) (p : IsPassedOn S u posted to f)
+    → grown ≡ p.before ++ p.forward ∷ later → IsPassedOn S v grown to f
 passed_later S u v dialled posted grown later to f p split = record {
   before = p.before;
   forward = p.forward;
@@ -136,9 +139,11 @@ passes-still S u v nodes links hubs = passes-same S u v (Holding.keep-others u v
 
 -- A call is made, by which what enters outboxes was passed on.
 passes-called : (S : Sendings) (w : World) (j caller place : ℕ) (call : Call)
-    → ((h : Hub) (c : ℕ) → hub_at w j ≡ Some h → AllByRecursion (IsPassedTo S w (with_call w caller place call h).posted c) (npdus (frames_by h.about (entries h.posted) c (record { entry = entry_in w h caller call; sent_at = place }))))
+    → ((h : Hub) (c : ℕ) → hub_at w j ≡ Some h → AllByRecursion (IsPassedTo S w (with_call w caller place call h).posted c)
+    (npdus (frames_by h.about (entries h.posted) c (record { entry = entry_in w h caller call; sent_at = place }))))
     → Keeps (PassesOn S) w (called j caller place call w)
-passes-called S w j caller place call new s i g c at = all-mapped (IsPassedTo S w g.posted c) (IsPassedTo S v g.posted c) (passed-same S w v (Holding.keep-others w v refl refl) g.posted c) (npdus (frames g c)) (by (got-changed j (with_call w caller place call) w.hubs i g at))
+passes-called S w j caller place call new s i g c at = all-mapped (IsPassedTo S w g.posted c) (IsPassedTo S v g.posted c) (passed-same S w v (Holding.keep-others w v refl refl) g.posted c)
+    (npdus (frames g c)) (by (got-changed j (with_call w caller place call) w.hubs i g at))
   where
     v : World
     v = called j caller place call w
@@ -151,7 +156,8 @@ passes-called S w j caller place call new s i g c at = all-mapped (IsPassedTo S 
         let P = IsPassedTo S w (with_call w caller place call x).posted c in
         subst (λ (y : Hub). AllByRecursion (IsPassedTo S w y.posted c) (npdus (frames y c))) (sym changed)
         (subst (AllByRecursion P) (sym (ap npdus (frames-more x.about x.posted p c) ∙ filter-append holds_npdu (frames x c) more))
-        (all-joined P (npdus (frames x c)) (npdus more) (all-mapped (IsPassedTo S w x.posted c) P (passed-on S w x.posted (p ∷ []) c) (npdus (frames x c)) (s i x c here)) (new x c (ap (slice_get w.hubs) same ∙ here))))
+        (all-joined P (npdus (frames x c)) (npdus more) (all-mapped (IsPassedTo S w x.posted c) P (passed-on S w x.posted (p ∷ []) c) (npdus (frames x c)) (s i x c here))
+        (new x c (ap (slice_get w.hubs) same ∙ here))))
 
 abbrev is_forward : Call → Bool
 is_forward (Forward sender m) = true
@@ -179,7 +185,8 @@ if_so P true x h = (h refl, tt)
 if_so P false x h = tt
 
 all_added : (P : List ℕ → Type 0) (a : About) (G : List Entry) (entered : List (List ℕ)) (c sender : ℕ) (m : List ℕ) (looks : List Look)
-    → ((is_live G sender && list_any (takes a (out_of G sender m) entered looks c) (meant G sender m)) ≡ true → P (out_of G sender m)) → AllByRecursion P (added_by a G entered c (Forward sender m) looks)
+    → ((is_live G sender && list_any (takes a (out_of G sender m) entered looks c) (meant G sender m)) ≡ true → P (out_of G sender m))
+    → AllByRecursion P (added_by a G entered c (Forward sender m) looks)
 unfolding added_by
 all_added P a G entered c sender m looks so = if_so P (is_live G sender && list_any (takes a (out_of G sender m) entered looks c) (meant G sender m)) (out_of G sender m) so
 
@@ -193,7 +200,8 @@ sent-up : (S : Sendings) (w : World) (l place : ℕ) (k : Link) (m : List ℕ) �
 sent-up S w l place k m here arrival all is =
     let same : k.up ≡ arrival.on = some_same k.up arrival.on (sym (ap (option_map (traffic Up)) here) ∙ arrival.found) in
     let sent = all-at (LinkSent S) w.links l k all here in
-    all-messages (λ f. holds_npdu f ≡ true → IsSentBy S k.from f) k.up.put arrival.place m place (all_unfiltered (IsSentBy S k.from) holds_npdu (messages k.up) sent.up) (ap (λ t. slice_get t.put arrival.place) same ∙ arrival.here) is
+    all-messages (λ f. holds_npdu f ≡ true → IsSentBy S k.from f) k.up.put arrival.place m place (all_unfiltered (IsSentBy S k.from) holds_npdu (messages k.up) sent.up)
+    (ap (λ t. slice_get t.put arrival.place) same ∙ arrival.here) is
 
 -- what is to be carried has the destination
 with_dest : (S : Sendings) (k place : ℕ) (m : List ℕ) → has_route m ≡ true → IsSentBy S k (record { octets = m; sent_at = place })
@@ -223,7 +231,8 @@ pub record KnowsHistories (cast : Cast) (S : Sendings) (T place : ℕ) (w : Worl
   pub legally : Legally w
   pub sent : AllSent S w
 
-passes-forwards : (cast : Cast) (S : Sendings) (T place : ℕ) (w : World) (l j p : ℕ) (h : Hub) (k : Link) (m : List ℕ) (d : ℕ) → IsSide w l j h k → k.side.conn ≡ Some d → HasArrived w l Up (record { content = Message m; sent_at = p })
+passes-forwards : (cast : Cast) (S : Sendings) (T place : ℕ) (w : World) (l j p : ℕ) (h : Hub) (k : Link) (m : List ℕ) (d : ℕ) → IsSide w l j h k → k.side.conn ≡ Some d
+    → HasArrived w l Up (record { content = Message m; sent_at = p })
     → IsSaid h k m GoesUp → KnowsHistories cast S T place w → (c : ℕ)
     → AllByRecursion (IsPassedTo S w (with_call w l p (Forward d m) h).posted c) (npdus (frames_by h.about (entries h.posted) c (record { entry = entry_in w h l (Forward d m); sent_at = p })))
 passes-forwards cast S T place w l j p h k m d side conn arrival said known c =
@@ -259,7 +268,8 @@ passes-forwards cast S T place w l j p h k m d side conn arrival said known c =
         let from_joined : In sender.0 (joined H) = joined_in _ H sender.0 from.0 in
         let taker = any_gives (takes h.about (out_of H d m) (sent h.about H c) looks c) (meant H d m) both.1 in
         let to = In-filter (means m d) taker.0 (live H) taker.1 in
-        let number : taker.0.number ≡ c = eqb-true taker.0.number c (and_parts (taker.0.number == c) (not (is_too_long (out_of H d m) taker.0 || is_found_full h.about (sent h.about H c) looks c)) taker.2).0 in
+        let number : taker.0.number ≡ c = eqb-true taker.0.number c (and_parts (taker.0.number == c)
+        (not (is_too_long (out_of H d m) taker.0 || is_found_full h.about (sent h.about H c) looks c)) taker.2).0 in
         let caller : sender.0.caller ≡ l = joined_by h l d sender.0 legal (known.sides.joined l j h k d (side_of w l j h k side) conn) from_joined from.1 in
         let up = with_dest S k.from p m route (sent-up S w l p k m side.link arrival known.sent (sym (npdu-out m (vmac_of H d)) ∙ is)) in (
           taker.0,
@@ -342,7 +352,8 @@ passes cast S T place D = record {
       passes-same S v _ (Holding.keep-then v u _ (Holding.keep-side v l _) (Holding.keep-side u l _)) refl (passes-quiet S w j l p (Connect who) refl s);
   forwards = λ w l j p h k o c side conn arrival said m.
       passes-called S w j l p (Forward c o) (λ g d at.
-      subst (λ (x : Hub). AllByRecursion (IsPassedTo S w (with_call w l p (Forward c o) x).posted d) (npdus (frames_by x.about (entries x.posted) d (record { entry = entry_in w x l (Forward c o); sent_at = p }))))
+      subst (λ (x : Hub). AllByRecursion (IsPassedTo S w (with_call w l p (Forward c o) x).posted d)
+      (npdus (frames_by x.about (entries x.posted) d (record { entry = entry_in w x l (Forward c o); sent_at = p }))))
       (some_same h g (sym side.hub ∙ at)) (passes-forwards cast S T place w l j p h k o c side conn arrival said m d));
   takes = λ w l j h k c f side conn is m. passes-same S w _ (A.each.takes w l j h k c f side conn is) refl;
   hears = λ w k n by e here come fit m. passes-same S w _ (A.each.hears w k n by e here come fit) (hears-hubs w k n by e);

@@ -1,4 +1,5 @@
 -- Which NPDUs nodes have put, each at its link, way and index; and which moves add none.
+-- It serves clauses of functions of `laws`.
 use Rattle.std.proofs.Common.{◌≡◌, ◌⊎◌, inl, inr, ℕ, zero, suc, true, false, List, [], Option, Some, None, refl, ap, sym, subst, ◌∙◌}
 use Rattle.std.specs.Prelude.{length, slice_get}
 use Rattle.bsc_octets.specs.Functions.{is_npdu}
@@ -131,7 +132,8 @@ not_npdu : (content : Content) (place : ℕ) (f : Frame) → CarriesNone content
 not_npdu content place f none npdu is = no_message content f.octets none npdu (ap (λ (p : Parcel). p.content) is)
 
 -- What is no NPDU adds none.
-pub none-puts : (w : World) (l place : ℕ) (way : Way) (content : Content) → CarriesNone content → AddsNone w (with_link l (with_traffic way (and_then (record { content = content; sent_at = place }))) w)
+pub none-puts : (w : World) (l place : ℕ) (way : Way) (content : Content) → CarriesNone content
+    → AddsNone w (with_link l (with_traffic way (and_then (record { content = content; sent_at = place }))) w)
 none-puts w l place way content none = none-link w l _ (λ x here. by x)
   where
     by : (x : Link) → LinkAddsNone x (with_traffic way (and_then (record { content = content; sent_at = place })) x)

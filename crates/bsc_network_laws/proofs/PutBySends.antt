@@ -1,4 +1,5 @@
 -- Each NPDU that node k puts at an event is that of a Send of its own, in this very step.
+-- It serves clauses of functions of `laws`.
 use Rattle.std.proofs.Common.{◌≡◌, ◌<◌, ◌⊎◌, inl, inr, ℕ, Bool, true, false, List, [], ◌∷◌, ◌++◌, Option, Some, None, refl, ap, sym, subst, ◌∙◌}
 use Rattle.std.specs.Prelude.{◌^◌, IsTrue, if◌then◌else◌, filter_map, map}
 use Rattle.std.specs.List.{list_any}
@@ -66,7 +67,8 @@ not_sent Opened None dest npdu h = cc
 not_sent (Message o) None dest npdu h = cc
 not_sent Closed None dest npdu h = cc
 
-pub sent_is_own : (D : WorldStep) (w : World) (k : ℕ) (n : Node) (by : Option Arrival) (e : NodeEvent) (dest : Vmac) (npdu : List ℕ) → Comes D w k n by e → e ≡ Send dest npdu → D ≡ OfNode k (Send dest npdu)
+pub sent_is_own : (D : WorldStep) (w : World) (k : ℕ) (n : Node) (by : Option Arrival) (e : NodeEvent) (dest : Vmac) (npdu : List ℕ) → Comes D w k n by e → e ≡ Send dest npdu
+    → D ≡ OfNode k (Send dest npdu)
 sent_is_own D w k n (Some a) e dest npdu (content, heard, came, is) sent = absurd (not_sent content (name_of a.link a.way n) dest npdu (is ∙ ap Some sent))
 sent_is_own D w k n None e dest npdu (inl own) sent = own.0 ∙ ap (OfNode k) sent
 sent_is_own D w k n None e dest npdu (inr (inl (l, way, name, is, held))) sent = cc
@@ -107,16 +109,19 @@ put_is_sent S place T D w k n by e name o below calm come fit sends among npdu =
     no_send : (dest : Vmac) (octets : List ℕ) → NoRandom ≡ Send dest octets → ⊥
     no_send dest octets h = cc
 
-    second : list_any draws (actions_at n.made n.log event) ≡ true → Among (Put name o) (actions_at n.made (n.log ++ goes_on n.made event n.log) none) → IsSentBy S k (record { octets = o; sent_at = place })
+    second : list_any draws (actions_at n.made n.log event) ≡ true → Among (Put name o) (actions_at n.made (n.log ++ goes_on n.made event n.log) none)
+        → IsSentBy S k (record { octets = o; sent_at = place })
     second drawn h =
         let M = n.log ++ goes_on n.made event n.log in
         let s = put_is_of_send n.made M none name o (no_word_then T M below (now_then n.made n.log event may) (draws_at n.made n.log event may ∙ drawn)) h npdu in
         absurd (no_send s.dest s.npdu s.event)
 
-    either_of : list_any draws (actions_at n.made n.log event) ≡ true → Among (Put name o) (actions_at n.made n.log event) ⊎ Among (Put name o) (actions_at n.made (n.log ++ goes_on n.made event n.log) none) → IsSentBy S k (record { octets = o; sent_at = place })
+    either_of : list_any draws (actions_at n.made n.log event) ≡ true → Among (Put name o) (actions_at n.made n.log event)
+        ⊎ Among (Put name o) (actions_at n.made (n.log ++ goes_on n.made event n.log) none) → IsSentBy S k (record { octets = o; sent_at = place })
     either_of drawn (inl h) = first h
     either_of drawn (inr h) = second drawn h
 
-    split : (b : Bool) → list_any draws (actions_at n.made n.log event) ≡ b → Among (Put name o) (filter_map action_of (in_order (map (goes_on n.made) (if b then event ∷ none ∷ [] else event ∷ [])) n.log)) → IsSentBy S k (record { octets = o; sent_at = place })
+    split : (b : Bool) → list_any draws (actions_at n.made n.log event) ≡ b
+        → Among (Put name o) (filter_map action_of (in_order (map (goes_on n.made) (if b then event ∷ none ∷ [] else event ∷ [])) n.log)) → IsSentBy S k (record { octets = o; sent_at = place })
     split false drawn h = first (subst (Among (Put name o)) (actions-one n.made event n.log) h)
     split true drawn h = either_of drawn (among-both (Put name o) (actions_at n.made n.log event) _ (subst (Among (Put name o)) (actions-two n.made event none n.log) h))

@@ -1,4 +1,5 @@
 -- After each step, no two NPDUs that nodes have put have one place.
+-- It serves clauses of functions of `laws`.
 use Rattle.std.proofs.Common.{◌≡◌, ◌<◌, ◌⊎◌, inl, inr, ℕ, true, List, [], Option, Some, None, refl, ap, sym, subst, ◌∙◌, arith}
 use Rattle.std.specs.Prelude.{◌+◌, ◌^◌, IsTrue, length, slice_get, filter_map}
 use Rattle.bsc_octets.specs.declared.vmac.Vmac.{Vmac}
@@ -95,7 +96,8 @@ pub record IsLastOn (w : World) (l : ℕ) (way : Way) (p : Parcel) (m : ℕ) (on
   pub link : m ≡ l
   pub last : IsLast at way p on i f
 
-put-split : (w : World) (l : ℕ) (way : Way) (p : Parcel) (m : ℕ) (on : Way) (i : ℕ) (f : Frame) → PutAt (with_link l (with_traffic way (and_then p)) w) m on i f → PutAt w m on i f ⊎ IsLastOn w l way p m on i f
+put-split : (w : World) (l : ℕ) (way : Way) (p : Parcel) (m : ℕ) (on : Way) (i : ℕ) (f : Frame) → PutAt (with_link l (with_traffic way (and_then p)) w) m on i f → PutAt w m on i f
+    ⊎ IsLastOn w l way p m on i f
 put-split w l way p m on i f (y, at, put) = by (got-changed l (with_traffic way (and_then p)) w.links m y at)
   where
     by : (slice_get w.links m ≡ Some y) ⊎ ((x : Link) × (l ≡ m) × (slice_get w.links m ≡ Some x) × (y ≡ with_traffic way (and_then p) x)) → PutAt w m on i f ⊎ IsLastOn w l way p m on i f
@@ -107,14 +109,18 @@ put-split w l way p m on i f (y, at, put) = by (got-changed l (with_traffic way 
 last_place : (x : Link) (way : Way) (p : Parcel) (on : Way) (i : ℕ) (f : Frame) → IsLast x way p on i f → f.sent_at ≡ p.sent_at
 last_place x way p on i f last = ap (λ (y : Parcel). y.sent_at) last.parcel
 
-both_last : (w : World) (l : ℕ) (way : Way) (p : Parcel) (m : ℕ) (on : Way) (i : ℕ) (f : Frame) (n : ℕ) (by : Way) (j : ℕ) (g : Frame) → IsLastOn w l way p m on i f → IsLastOn w l way p n by j g → IsOne m on i n by j
+both_last : (w : World) (l : ℕ) (way : Way) (p : Parcel) (m : ℕ) (on : Way) (i : ℕ) (f : Frame) (n : ℕ) (by : Way) (j : ℕ) (g : Frame) → IsLastOn w l way p m on i f
+    → IsLastOn w l way p n by j g → IsOne m on i n by j
 both_last w l way p m on i f n by j g a b =
     let same : a.at ≡ b.at = some_same a.at b.at (sym a.here ∙ b.here) in
     record { link = a.link ∙ sym b.link; way_is = a.last.way_is ∙ sym b.last.way_is; index = a.last.last ∙ ap (λ (x : Link). length (traffic way x).put) same ∙ sym b.last.last }
 
 -- One NPDU is put, with the place of this step, where none was.
 put-one : (place : ℕ) (w : World) (l : ℕ) (way : Way) (p : Parcel) → p.sent_at ≡ place → NonePut place w → OnePut place (with_link l (with_traffic way (and_then p)) w)
-put-one place w l way p at n = record { before = λ m on i f put. earlier m on i f (put-split w l way p m on i f put); once = λ m on i f o by j g a b same. apart m on i f o by j g (put-split w l way p m on i f a) (put-split w l way p o by j g b) same }
+put-one place w l way p at n = record {
+  before = λ m on i f put. earlier m on i f (put-split w l way p m on i f put);
+  once = λ m on i f o by j g a b same. apart m on i f o by j g (put-split w l way p m on i f a) (put-split w l way p o by j g b) same;
+}
   where
     earlier : (m : ℕ) (on : Way) (i : ℕ) (f : Frame) → PutAt w m on i f ⊎ IsLastOn w l way p m on i f → f.sent_at < place + 1
     earlier m on i f (inl put) = let h = n.before m on i f put in omega arith
@@ -123,7 +129,8 @@ put-one place w l way p at n = record { before = λ m on i f put. earlier m on i
     not_new : (f g : Frame) → f.sent_at < place → g.sent_at ≡ p.sent_at → f.sent_at ≡ g.sent_at → ⊥
     not_new f g less is same = omega arith
 
-    apart : (m : ℕ) (on : Way) (i : ℕ) (f : Frame) (o : ℕ) (by : Way) (j : ℕ) (g : Frame) → PutAt w m on i f ⊎ IsLastOn w l way p m on i f → PutAt w o by j g ⊎ IsLastOn w l way p o by j g → f.sent_at ≡ g.sent_at → IsOne m on i o by j
+    apart : (m : ℕ) (on : Way) (i : ℕ) (f : Frame) (o : ℕ) (by : Way) (j : ℕ) (g : Frame) → PutAt w m on i f ⊎ IsLastOn w l way p m on i f → PutAt w o by j g ⊎ IsLastOn w l way p o by j g
+        → f.sent_at ≡ g.sent_at → IsOne m on i o by j
     apart m on i f o by j g (inl a) (inl b) same = n.once m on i f o by j g a b same
     apart m on i f o by j g (inl a) (inr b) same = absurd (not_new f g (n.before m on i f a) (last_place b.at way p by j g b.last) same)
     apart m on i f o by j g (inr a) (inl b) same = absurd (not_new g f (n.before o by j g b) (last_place a.at way p on i f a.last) (sym same))
@@ -165,7 +172,8 @@ put-never a M x action is sent = no sent.dest sent.npdu (sym is ∙ sent.event)
     no dest npdu h = cc
 
 -- At an event of a step a node puts at most one NPDU, and that for a Send.
-pub puts-at_most : (T place : ℕ) (D : WorldStep) (w : World) (k : ℕ) (n : Node) (by : Option Arrival) (e : NodeEvent) → node_at w k ≡ Some n → Comes D w k n by e → fits n.log e ≡ true → Knows T place w
+pub puts-at_most : (T place : ℕ) (D : WorldStep) (w : World) (k : ℕ) (n : Node) (by : Option Arrival) (e : NodeEvent) → node_at w k ≡ Some n → Comes D w k n by e → fits n.log e ≡ true
+    → Knows T place w
     → AtMostOne puts_npdu (IsSentThen n.made n.log (record { now = w.now; event = e })) (filter_map action_of (brings_about n.made (record { now = w.now; event = e }) n.log))
 puts-at_most T place D w k n by e here come fit known =
     at_most-one puts_npdu IsSentThen w.now n.made n.log e (subst (λ t. t < 2 ^ 62) (sym known.at.now) known.at.below)
@@ -173,12 +181,14 @@ puts-at_most T place D w k n by e here come fit known =
     (put-law n.made) (put-never n.made)
 
 -- A Send comes first.
-sent_first : (B : World) (D : WorldStep) (w : World) (k : ℕ) (n : Node) (by : Option Arrival) (e : NodeEvent) (dest : Vmac) (npdu : List ℕ) → Comes D w k n by e → ComesFirst B w by e → e ≡ Send dest npdu → w ≡ B
+sent_first : (B : World) (D : WorldStep) (w : World) (k : ℕ) (n : Node) (by : Option Arrival) (e : NodeEvent) (dest : Vmac) (npdu : List ℕ) → Comes D w k n by e → ComesFirst B w by e
+    → e ≡ Send dest npdu → w ≡ B
 sent_first B D w k n None e dest npdu come first sent = first (ap is_own sent)
 sent_first B D w k n (Some a) e dest npdu (content, heard, came, is) first sent = absurd (not_sent content (name_of a.link a.way n) dest npdu (is ∙ ap Some sent))
 
 -- Of an event that comes, where nothing was put before the step began with this.
-one-hears : (T place : ℕ) (B : World) (D : WorldStep) → B.steps ≡ place → PutBefore place B → ArePutOnce B → (w : World) (k : ℕ) (n : Node) (by : Option Arrival) (e : NodeEvent) → node_at w k ≡ Some n → Comes D w k n by e → fits n.log e ≡ true → ComesFirst B w by e
+one-hears : (T place : ℕ) (B : World) (D : WorldStep) → B.steps ≡ place → PutBefore place B → ArePutOnce B → (w : World) (k : ℕ) (n : Node) (by : Option Arrival) (e : NodeEvent)
+    → node_at w k ≡ Some n → Comes D w k n by e → fits n.log e ≡ true → ComesFirst B w by e
     → KeepsGiven (Knows T place) (OnePut place) w (hears k by (record { now = w.now; event = e }) n w)
 one-hears T place B D steps before once w k n by e here come fit first known one = at (puts-at_most T place D w k n by e here come fit known)
   where

@@ -1,4 +1,5 @@
 -- After each step, each delivery has a receipt of its own: where what it delivers has arrived.
+-- It serves clauses of functions of `laws`.
 use Rattle.std.proofs.Common.{◌≡◌, ◌≢◌, ◌<◌, ◌⊎◌, inl, inr, ℕ, suc, true, false, List, [], ◌∷◌, ◌++◌, Option, Some, None, refl, ap, sym, subst, ◌∙◌, arith}
 use Rattle.std.specs.Prelude.{◌+◌, ◌^◌, IsTrue, slice_get, filter, filter_map, ⊤}
 use Rattle.std.specs.Option.{option_map}
@@ -104,7 +105,13 @@ receipt-on u v g d r is =
     let more = (there.2.ways r.way).arrived in
     record {
       octets = is.octets;
-      is_heard = record { at = there.0; here = there.1; stands = stays-at (traffic r.way h.at) (traffic r.way there.0) (there.2.ways r.way) r.index _ h.stands; npdu = h.npdu; heard = heard-on r.way h.at there.0 there.2 ∙ h.heard };
+      is_heard = record {
+        at = there.0;
+        here = there.1;
+        stands = stays-at (traffic r.way h.at) (traffic r.way there.0) (there.2.ways r.way) r.index _ h.stands;
+        npdu = h.npdu;
+        heard = heard-on r.way h.at there.0 there.2 ∙ h.heard;
+      };
       arrived = omega arith;
     }
 
@@ -129,7 +136,8 @@ receipts-same u v links delivered = receipts-kept u v (grows-same u v links, del
 
 -- ---- one more
 
-receipts-more : (w : World) (ds : List WorldDelivery) (rs : List Receipt) (d : WorldDelivery) (r : Receipt) → AreReceipts w ds rs → AllByRecursion (λ x. x ≢ r) rs → IsReceipt w d r → AreReceipts w (ds ++ d ∷ []) (rs ++ r ∷ [])
+receipts-more : (w : World) (ds : List WorldDelivery) (rs : List Receipt) (d : WorldDelivery) (r : Receipt) → AreReceipts w ds rs → AllByRecursion (λ x. x ≢ r) rs → IsReceipt w d r
+    → AreReceipts w (ds ++ d ∷ []) (rs ++ r ∷ [])
 receipts-more w [] [] d r all new is = (is, tt, tt)
 receipts-more w (e ∷ ds) (x ∷ rs) d r all new is = (all.0, all-one_more (λ y. x ≢ y) rs r all.1 new.0, receipts-more w ds rs d r all.2 new.1 is)
 receipts-more w [] (x ∷ rs) d r all new is = absurd all
@@ -176,7 +184,23 @@ deliver-law a L e may = by (delivers_what_came a L e may)
     by : (delivered_at a L e ≡ []) ⊎ IsDeliveredOnce a L e → AtMostOne delivers_npdu (IsOfCame a L e) (actions_at a L e)
     by (inl none) = inl none
     by (inr (name, o, msg, npdu, from, event, passed, body, from_is, is)) =
-        inr (_, is, record { name = name; octets = o; message = msg; content = npdu; from = from; event = event; passed = passed; body = body; from_is = from_is; npdu = passed-npdu o (place a (with_event L e) name) a.own.max_bvlc msg npdu passed body; is = refl })
+        inr (
+          _,
+          is,
+          record {
+            name = name;
+            octets = o;
+            message = msg;
+            content = npdu;
+            from = from;
+            event = event;
+            passed = passed;
+            body = body;
+            from_is = from_is;
+            npdu = passed-npdu o (place a (with_event L e) name) a.own.max_bvlc msg npdu passed body;
+            is = refl;
+          },
+        )
 
 deliver-never : (a : Made) (M : Log) (x : TimedEvent) (action : Action) → x.event ≡ NoRandom → IsOfCame a M x action → ⊥
 deliver-never a M x action is of = no of.name of.octets (sym is ∙ of.event)
@@ -184,7 +208,8 @@ deliver-never a M x action is of = no of.name of.octets (sym is ∙ of.event)
     no : (name : LinkName) (o : List ℕ) → NoRandom ≡ Came name o → ⊥
     no name o h = cc
 
-pub delivers-at_most : (T place : ℕ) (D : WorldStep) (w : World) (k : ℕ) (n : Node) (by : Option Arrival) (e : NodeEvent) → node_at w k ≡ Some n → Comes D w k n by e → fits n.log e ≡ true → Knows T place w
+pub delivers-at_most : (T place : ℕ) (D : WorldStep) (w : World) (k : ℕ) (n : Node) (by : Option Arrival) (e : NodeEvent) → node_at w k ≡ Some n → Comes D w k n by e → fits n.log e ≡ true
+    → Knows T place w
     → AtMostOne delivers_npdu (IsOfCame n.made n.log (record { now = w.now; event = e })) (filter_map action_of (brings_about n.made (record { now = w.now; event = e }) n.log))
 delivers-at_most T place D w k n by e here come fit known =
     at_most-one delivers_npdu IsOfCame w.now n.made n.log e (subst (λ t. t < 2 ^ 62) (sym known.at.now) known.at.below)
@@ -210,7 +235,8 @@ not_came D w k n e name o (inr (inl (l, way, other, lost, held))) is = cc
 not_came D w k n e name o (inr (inr (other, failed))) is = cc
 
 -- The receipt of what has just arrived.
-just_arrived : (w : World) (k : ℕ) (a : Arrival) (content : Content) (o : List ℕ) (d : Delivered) (came : HasArrived w a.link a.way (record { content = content; sent_at = a.sent_at })) → content ≡ Message o → is_npdu o ≡ true → IsHeardBy w a.link a.way k
+just_arrived : (w : World) (k : ℕ) (a : Arrival) (content : Content) (o : List ℕ) (d : Delivered) (came : HasArrived w a.link a.way (record { content = content; sent_at = a.sent_at }))
+    → content ≡ Message o → is_npdu o ≡ true → IsHeardBy w a.link a.way k
     → IsReceipt w (record { sent_at = a.sent_at; node = k; delivered = d }) (record { link = a.link; way = a.way; index = came.place })
 just_arrived w k a content o d came is npdu heard =
     let there = found-in (traffic a.way) (link_at w a.link) came.on came.found in
@@ -261,7 +287,8 @@ none-acts k by = record {
         at_node (Some m) = at_hold (hold_of name m)
 
 -- Of an event that comes.
-receipts-hears : (T place : ℕ) (B : World) (D : WorldStep) → HasReceipts B → (w : World) (k : ℕ) (n : Node) (by : Option Arrival) (e : NodeEvent) → node_at w k ≡ Some n → Comes D w k n by e → fits n.log e ≡ true → ComesFirst B w by e
+receipts-hears : (T place : ℕ) (B : World) (D : WorldStep) → HasReceipts B → (w : World) (k : ℕ) (n : Node) (by : Option Arrival) (e : NodeEvent) → node_at w k ≡ Some n → Comes D w k n by e
+    → fits n.log e ≡ true → ComesFirst B w by e
     → KeepsGiven (Knows T place) HasReceipts w (hears k by (record { now = w.now; event = e }) n w)
 receipts-hears T place B D at_first w k n by e here come fit first known has = at (delivers-at_most T place D w k n by e here come fit known)
   where
@@ -298,17 +325,23 @@ receipts-hears T place B D at_first w k n by e here come fit first known has = a
 
     begins : (a : Arrival) → w ≡ after_arrival a.link a.way B → Up_to w
     begins a is =
-        let v = after_arrival a.link a.way B in
-        (at_first.0, subst (λ (u : World). AreReceipts u u.delivered at_first.0) (sym is) (these-kept B v (grows-arrives B a.link a.way, refl) at_first.0 at_first.1), receipts-old B B.delivered at_first.0 at_first.1, grows-none w)
+        let v = after_arrival a.link a.way B in (
+          at_first.0,
+          subst (λ (u : World). AreReceipts u u.delivered at_first.0) (sym is) (these-kept B v (grows-arrives B a.link a.way, refl) at_first.0 at_first.1),
+          receipts-old B B.delivered at_first.0 at_first.1,
+          grows-none w,
+        )
 
-    new : (a : Arrival) (content : Content) (came : HasArrived w a.link a.way (record { content = content; sent_at = a.sent_at })) → w ≡ after_arrival a.link a.way B → (r : Receipt) → OldIn B r → r ≢ record { link = a.link; way = a.way; index = came.place }
+    new : (a : Arrival) (content : Content) (came : HasArrived w a.link a.way (record { content = content; sent_at = a.sent_at })) → w ≡ after_arrival a.link a.way B → (r : Receipt)
+        → OldIn B r → r ≢ record { link = a.link; way = a.way; index = came.place }
     new a content came is r old same =
         let moved : OldIn B (record { link = a.link; way = a.way; index = came.place }) = subst (OldIn B) same old in
         let next = arrived_next B w a.link a.way (record { content = content; sent_at = a.sent_at }) came is moved.0 moved.1 in
         let less = moved.2 in
         absurd (omega arith)
 
-    delivered_one : (a : Arrival) (content : Content) (came : HasArrived w a.link a.way (record { content = content; sent_at = a.sent_at })) (o : List ℕ) (d : Delivered) → content ≡ Message o → is_npdu o ≡ true → IsHeardBy w a.link a.way k
+    delivered_one : (a : Arrival) (content : Content) (came : HasArrived w a.link a.way (record { content = content; sent_at = a.sent_at })) (o : List ℕ) (d : Delivered)
+        → content ≡ Message o → is_npdu o ≡ true → IsHeardBy w a.link a.way k
         → w ≡ after_arrival a.link a.way B → (u : World) → Up_to u → HasReceipts (delivers k d a u)
     delivered_one a content came o d is npdu heard start u p =
         let one : WorldDelivery = record { sent_at = a.sent_at; node = k; delivered = d } in
@@ -324,11 +357,13 @@ receipts-hears T place B D at_first w k n by e here come fit first known has = a
     one x of (Some a) (content, heard, came, brought) first is =
         acts-once k (Some a) delivers_npdu Up_to HasReceipts (keeps (Some a) Up_to up_to-kept) (keeps (Some a) HasReceipts receipts-kept) x
         (λ u p. subst (λ (y : Action). HasReceipts (carries_out k (Some a) y u)) (sym of.is)
-        (delivered_one a content came of.octets (delivery of.message of.content of.from) (came_is content (name_of a.link a.way n) of.name of.octets (brought ∙ ap Some of.event)) of.npdu heard first u p))
+        (delivered_one a content came of.octets (delivery of.message of.content of.from)
+        (came_is content (name_of a.link a.way n) of.name of.octets (brought ∙ ap Some of.event)) of.npdu heard first u p))
         actions logged is (up_to-kept w logged (grows-same w logged refl, refl) (begins a first))
 
     at : AtMostOne delivers_npdu (IsOfCame n.made n.log event) actions → HasReceipts (hears k by event n w)
-    at (inl none) = receipts-kept logged (hears k by event n w) (acts-none k by delivers_npdu DeliversNone (none-acts k by) actions logged none) (receipts-kept w logged (grows-same w logged refl, refl) has)
+    at (inl none) = receipts-kept logged (hears k by event n w) (acts-none k by delivers_npdu DeliversNone (none-acts k by) actions logged none)
+        (receipts-kept w logged (grows-same w logged refl, refl) has)
     at (inr (x, is, of)) = one x of by come first is
 
 -- Each delivery has its receipt, after each move of a step that began so.
@@ -361,9 +396,11 @@ abbrev pub ComeOnce : World → Type 0
 ComeOnce w = (l : ℕ) (way : Way) (i : ℕ) (o : List ℕ) (m : ℕ) (on : Way) (j : ℕ) (p : List ℕ) (place k : ℕ) → HeardAt w l way i o place k → HeardAt w m on j p place k → IsOne l way i m on j
 
 same-receipt : (r x : Receipt) → IsOne r.link r.way r.index x.link x.way x.index → r ≡ x
-same-receipt r x one = ap (λ (l : ℕ). record { link = l; way = r.way; index = r.index }) one.link ∙ ap (λ (way : Way). record { link = x.link; way = way; index = r.index }) one.way_is ∙ ap (λ (i : ℕ). record { link = x.link; way = x.way; index = i }) one.index
+same-receipt r x one = ap (λ (l : ℕ). record { link = l; way = r.way; index = r.index }) one.link ∙ ap (λ (way : Way). record { link = x.link; way = way; index = r.index }) one.way_is
+    ∙ ap (λ (i : ℕ). record { link = x.link; way = x.way; index = i }) one.index
 
-apart-one : (w : World) → ComeOnce w → (d : WorldDelivery) (r : Receipt) → IsReceipt w d r → (ds : List WorldDelivery) (rs : List Receipt) → AllByRecursion (λ x. r ≢ x) rs → AreReceipts w ds rs → AllByRecursion (AreApart d) ds
+apart-one : (w : World) → ComeOnce w → (d : WorldDelivery) (r : Receipt) → IsReceipt w d r → (ds : List WorldDelivery) (rs : List Receipt) → AllByRecursion (λ x. r ≢ x) rs
+    → AreReceipts w ds rs → AllByRecursion (AreApart d) ds
 apart-one w once d r is [] [] apart all = tt
 apart-one w once d r is (e ∷ ds) (x ∷ rs) apart all = (
   (λ place node. apart.0 (same-receipt r x (once r.link r.way r.index is.octets x.link x.way x.index all.0.octets d.sent_at d.node is.is_heard

@@ -1,4 +1,5 @@
 -- What holds of each network after any steps that may be made.
+-- It serves clauses of functions of `laws`.
 use Rattle.std.proofs.Common.{◌≡◌, ◌≤◌, ◌<◌, ℕ, List, [], ◌∷◌, ◌++◌, Some, refl, ap, sym, subst, ◌∙◌, append_assoc, arith}
 use Rattle.std.specs.Prelude.{◌+◌, ◌^◌, fold, length, map, slice_get}
 use Rattle.std.specs.List.{AllByRecursion}
@@ -98,7 +99,8 @@ known : (cast : Cast) (S : Sendings) (T : ℕ) (w : World) (t : TimedStep) → R
 known cast S T w t r after below = (knows-begun T w t after below r.timely r.holds r.sides, casts-same cast w (begun w t) refl refl r.casts)
 
 named-done : (cast : Cast) (S : Sendings) (T : ℕ) (w : World) (t : TimedStep) → Runs cast S T w.steps w → T ≤ t.now → t.now < 2 ^ 62 → Named cast (done w t)
-named-done cast S T w t r after below = kept-all cast (Named cast) t w.steps (named_stays cast t.now w.steps t.step) w (known cast S T w t r after below) (named-same cast w (begun w t) refl refl r.named)
+named-done cast S T w t r after below = kept-all cast (Named cast) t w.steps (named_stays cast t.now w.steps t.step) w (known cast S T w t r after below)
+    (named-same cast w (begun w t) refl refl r.named)
 
 dialled-done : (cast : Cast) → IsFit cast → (S : Sendings) (T : ℕ) (w : World) (t : TimedStep) → Runs cast S T w.steps w → T ≤ t.now → t.now < 2 ^ 62 → Inv cast (done w t)
 dialled-done cast fit S T w t r after below =
@@ -118,10 +120,12 @@ histories cast S T w t r after below = record {
   sent = r.sent;
 }
 
-histories-makes : (cast : Cast) → IsFit cast → (S : Sendings) (T : ℕ) (w : World) (t : TimedStep) → Runs cast S T w.steps w → T ≤ t.now → t.now < 2 ^ 62 → IsCounted S w.steps t.step → KnowsHistories cast S t.now w.steps (done w t)
+histories-makes : (cast : Cast) → IsFit cast → (S : Sendings) (T : ℕ) (w : World) (t : TimedStep) → Runs cast S T w.steps w → T ≤ t.now → t.now < 2 ^ 62 → IsCounted S w.steps t.step
+    → KnowsHistories cast S t.now w.steps (done w t)
 histories-makes cast fit S T w t r after below sends = histories-done cast fit S t w.steps sends w (histories cast S T w t r after below)
 
-passes-makes : (cast : Cast) → IsFit cast → (S : Sendings) (T : ℕ) (w : World) (t : TimedStep) → Runs cast S T w.steps w → T ≤ t.now → t.now < 2 ^ 62 → IsCounted S w.steps t.step → PassesOn S (makes w t)
+passes-makes : (cast : Cast) → IsFit cast → (S : Sendings) (T : ℕ) (w : World) (t : TimedStep) → Runs cast S T w.steps w → T ≤ t.now → t.now < 2 ^ 62 → IsCounted S w.steps t.step
+    → PassesOn S (makes w t)
 passes-makes cast fit S T w t r after below sends =
     passes-still S (done w t) (makes w t) refl refl refl (passes-done cast fit S t w.steps sends w (histories cast S T w t r after below) (passes-still S w (begun w t) refl refl refl r.passes))
 
@@ -140,7 +144,8 @@ direct-done cast S T w t r after below sends =
     (direct-same S cast w (begun w t) (lasts-same w (begun w t) refl refl refl) refl r.direct)
 
 -- all of that at the beginning of a step
-sources-begun : (cast : Cast) (S : Sendings) (T : ℕ) (w : World) (t : TimedStep) → Runs cast S T w.steps w → T ≤ t.now → t.now < 2 ^ 62 → KnowsSources S cast t.now w.steps (KnowsHubs cast S t.now w.steps) (begun w t)
+sources-begun : (cast : Cast) (S : Sendings) (T : ℕ) (w : World) (t : TimedStep) → Runs cast S T w.steps w → T ≤ t.now → t.now < 2 ^ 62
+    → KnowsSources S cast t.now w.steps (KnowsHubs cast S t.now w.steps) (begun w t)
 sources-begun cast S T w t r after below = (
   (names-begun cast S T w t r after below, ends-begun cast S T w t r),
   direct-same S cast w (begun w t) (lasts-same w (begun w t) refl refl refl) refl r.direct,
@@ -156,7 +161,8 @@ from-makes : (cast : Cast) → IsFit cast → (S : Sendings) (T : ℕ) (w : Worl
     → UpLaw → AreWhole S → AllFrom S (makes w t)
 from-makes cast fit S T w t r after below sends law whole =
     from-same S (done w t) (makes w t) (lasts-same (done w t) (makes w t) refl refl refl) refl
-    (sources-done law cast fit r.made S whole t w.steps sends w (sources-begun cast S T w t r after below) (from-same S w (begun w t) (lasts-same w (begun w t) refl refl refl) refl (r.from law whole)))
+    (sources-done law cast fit r.made S whole t w.steps sends w (sources-begun cast S T w t r after below)
+    (from-same S w (begun w t) (lasts-same w (begun w t) refl refl refl) refl (r.from law whole)))
 
 one_put : (cast : Cast) (S : Sendings) (T : ℕ) (w : World) (t : TimedStep) → Runs cast S T w.steps w → T ≤ t.now → t.now < 2 ^ 62 → OnePut w.steps (done w t)
 one_put cast S T w t r after below =
@@ -178,7 +184,8 @@ every-makes cast S T w t r after below =
     all-same (done w t) (makes w t) refl refl
     (kept-step AllDelivered t w.steps (all_stay t.now w.steps t.step) w (knows-begun T w t after below r.timely r.holds r.sides) (all-same w (begun w t) refl refl r.every))
 
-one_step : (cast : Cast) → IsFit cast → (S : Sendings) (T : ℕ) (w : World) (t : TimedStep) → Runs cast S T w.steps w → T ≤ t.now → t.now < 2 ^ 62 → IsCounted S w.steps t.step → Runs cast S t.now (w.steps + 1) (makes w t)
+one_step : (cast : Cast) → IsFit cast → (S : Sendings) (T : ℕ) (w : World) (t : TimedStep) → Runs cast S T w.steps w → T ≤ t.now → t.now < 2 ^ 62 → IsCounted S w.steps t.step
+    → Runs cast S t.now (w.steps + 1) (makes w t)
 one_step cast fit S T w t r after below sends = record {
   place_is = ap (λ n. n + 1) (at-done T w t after below r.timely).steps;
   ways = ways_fit w t r.ways;
@@ -214,13 +221,15 @@ step-at (x ∷ before) t ts = step-at before t ts
 one_longer : (before : List TimedStep) (t : TimedStep) → length before + 1 ≡ length (before ++ t ∷ [])
 one_longer before t = sym (length-append before (t ∷ []))
 
-runs-makes : (cast : Cast) → IsFit cast → (S : Sendings) (T place : ℕ) (w : World) (t : TimedStep) → Runs cast S T place w → T ≤ t.now → t.now < 2 ^ 62 → IsCounted S place t.step → Runs cast S t.now (place + 1) (makes w t)
+runs-makes : (cast : Cast) → IsFit cast → (S : Sendings) (T place : ℕ) (w : World) (t : TimedStep) → Runs cast S T place w → T ≤ t.now → t.now < 2 ^ 62 → IsCounted S place t.step
+    → Runs cast S t.now (place + 1) (makes w t)
 runs-makes cast fit S T place w t r after below sends =
     subst (λ p. Runs cast S t.now (p + 1) (makes w t)) r.place_is
     (one_step cast fit S T w t (subst (λ p. Runs cast S T p w) (sym r.place_is) r) after below (subst (λ p. IsCounted S p t.step) (sym r.place_is) sends))
 
 -- after the steps before, and then the others
-runs-on : (cast : Cast) → IsFit cast → (steps before ts : List TimedStep) (T : ℕ) (w : World) → steps ≡ before ++ ts → Runs cast (Sends steps) T (length before) w → MayMakeAll T ts → (U : ℕ) × (place : ℕ) × Runs cast (Sends steps) U place (fold makes w ts)
+runs-on : (cast : Cast) → IsFit cast → (steps before ts : List TimedStep) (T : ℕ) (w : World) → steps ≡ before ++ ts → Runs cast (Sends steps) T (length before) w → MayMakeAll T ts → (U : ℕ)
+    × (place : ℕ) × Runs cast (Sends steps) U place (fold makes w ts)
 runs-on cast fit steps before [] T w is r may = (T, length before, r)
 runs-on cast fit steps before (t ∷ ts) T w is r may =
     let first : MayMake T t = may.0 in

@@ -1,4 +1,5 @@
 -- An NPDU that a node puts is that of a Send, by the laws of a node.
+-- It serves clauses of functions of `laws`.
 use Rattle.std.proofs.Common.{◌≡◌, ◌⊎◌, inl, inr, ℕ, Bool, true, false, cond, List, [], ◌∷◌, Some, refl, ap, sym, subst, ◌∙◌}
 use Rattle.std.specs.Prelude.{IsTrue, filter}
 use Rattle.bsc_octets.specs.declared.vmac.Vmac.{Vmac}
@@ -55,7 +56,8 @@ by_law a L e name o (inr (dest, npdu, w, event, path, is)) among =
     record { dest = dest; npdu = npdu; path = w; event = event; by = path; name_is = same.0; octets = same.1 }
 
 -- An NPDU that a node puts at an event that may come is that of a Send.
-pub put_is_of_send : (a : Made) (L : Log) (e : TimedEvent) (name : LinkName) (o : List ℕ) → IsTrue (may_come L e) → Among (Put name o) (actions_at a L e) → puts_npdu (Put name o) ≡ true → IsOfSend a L e name o
+pub put_is_of_send : (a : Made) (L : Log) (e : TimedEvent) (name : LinkName) (o : List ℕ) → IsTrue (may_come L e) → Among (Put name o) (actions_at a L e) → puts_npdu (Put name o) ≡ true
+    → IsOfSend a L e name o
 put_is_of_send a L e name o may among is = by_law a L e name o (npdus_are_put_once a L e may) (among-filter puts_npdu (Put name o) (actions_at a L e) is among)
 
 -- ---- deliveries

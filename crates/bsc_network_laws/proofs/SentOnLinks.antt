@@ -1,4 +1,5 @@
 -- After each step, each NPDU that a node put on a way is that of a Send of its own, at its place.
+-- It serves clauses of functions of `laws`.
 use Rattle.std.proofs.Common.{◌≡◌, ◌<◌, ℕ, Bool, true, false, cond, List, [], ◌∷◌, Option, Some, None, refl, ap, sym, subst, ◌∙◌}
 use Rattle.std.specs.Prelude.{◌+◌, ◌^◌, filter_map, ⊤}
 use Rattle.std.specs.Option.{option_map}
@@ -63,7 +64,8 @@ abbrev pub Fresh : Sendings → ℕ → ℕ → Content → Type 0
 Fresh S k place (Message o) = is_npdu o ≡ true → IsSentBy S k (record { octets = o; sent_at = place })
 Fresh S k place content = ⊤
 
-fresh-one : (S : Sendings) (k place : ℕ) (content : Content) → Fresh S k place content → AllByRecursion (IsSentBy S k) (npdus (filter_map message_of (record { content = content; sent_at = place } ∷ [])))
+fresh-one : (S : Sendings) (k place : ℕ) (content : Content) → Fresh S k place content
+    → AllByRecursion (IsSentBy S k) (npdus (filter_map message_of (record { content = content; sent_at = place } ∷ [])))
 fresh-one S k place (Message o) fresh = by (is_npdu o) fresh
   where
     by : (b : Bool) → (b ≡ true → IsSentBy S k (record { octets = o; sent_at = place })) → AllByRecursion (IsSentBy S k) (cond b (record { octets = o; sent_at = place } ∷ []) [])
@@ -73,9 +75,11 @@ fresh-one S k place Opened fresh = tt
 fresh-one S k place Arrived fresh = tt
 fresh-one S k place Closed fresh = tt
 
-sent-more : (S : Sendings) (k place : ℕ) (content : Content) (t : Traffic) → Fresh S k place content → AllByRecursion (IsSentBy S k) (npdus (messages t)) → AllByRecursion (IsSentBy S k) (npdus (messages (and_then (record { content = content; sent_at = place }) t)))
+sent-more : (S : Sendings) (k place : ℕ) (content : Content) (t : Traffic) → Fresh S k place content → AllByRecursion (IsSentBy S k) (npdus (messages t))
+    → AllByRecursion (IsSentBy S k) (npdus (messages (and_then (record { content = content; sent_at = place }) t)))
 sent-more S k place content t fresh all =
-    subst (AllByRecursion (IsSentBy S k)) (sym (npdus-more (record { content = content; sent_at = place }) t)) (all-joined (IsSentBy S k) (npdus (messages t)) _ all (fresh-one S k place content fresh))
+    subst (AllByRecursion (IsSentBy S k)) (sym (npdus-more (record { content = content; sent_at = place }) t))
+    (all-joined (IsSentBy S k) (npdus (messages t)) _ all (fresh-one S k place content fresh))
 
 -- ---- links are changed
 
@@ -93,10 +97,14 @@ sent-none S w l place content none =
 -- something is put on the way down from a hub
 sent-hub : (S : Sendings) (w : World) (l j place : ℕ) (content : Content) → option_map (λ (x : Link). x.to) (link_at w l) ≡ Some (ToHub j) → AllSent S w → AllSent S (puts_at l Down place content w)
 sent-hub S w l j place content lead =
-    all-changed_here (LinkSent S) l _ w.links (λ x here sent. record { up = sent.up; down = λ k is. absurd (not_both k j x.to is (some_same x.to (ToHub j) (sym (ap (option_map (λ (y : Link). y.to)) here) ∙ lead))) })
+    all-changed_here (LinkSent S) l _ w.links (λ x here sent. record {
+      up = sent.up;
+      down = λ k is. absurd (not_both k j x.to is (some_same x.to (ToHub j) (sym (ap (option_map (λ (y : Link). y.to)) here) ∙ lead)));
+    })
 
 -- a node puts something on a way of a link, by the other of which it hears
-sent-node : (S : Sendings) (w : World) (l k place : ℕ) (way : Way) (content : Content) → IsHeardBy w l way k → Fresh S k place content → AllSent S w → AllSent S (puts_at l (other_way way) place content w)
+sent-node : (S : Sendings) (w : World) (l k place : ℕ) (way : Way) (content : Content) → IsHeardBy w l way k → Fresh S k place content → AllSent S w
+    → AllSent S (puts_at l (other_way way) place content w)
 sent-node S w l k place Down content heard fresh =
     all-changed_here (LinkSent S) l _ w.links (λ x here sent.
     let same : k ≡ x.from = sym (same_node x.from k (some_same (ToNode x.from) (ToNode k) (sym (ap (option_map (receiver Down)) here) ∙ heard))) in
@@ -130,7 +138,8 @@ sent-new S w k (ToNode j) = record { up = tt; down = λ i is. tt }
 abbrev Known : Sendings → ℕ → ℕ → Action → Type 0
 Known S place k action = (name : LinkName) (o : List ℕ) → action ≡ Put name o → is_npdu o ≡ true → IsSentBy S k (record { octets = o; sent_at = place })
 
-each_act : (S : Sendings) (T place : ℕ) (D : WorldStep) (k : ℕ) (w : World) (n : Node) (by : Option Arrival) (e : NodeEvent) → Comes D w k n by e → EachAct k by (Known S place k) (KeepsGiven (Amid w T place) (AllSent S))
+each_act : (S : Sendings) (T place : ℕ) (D : WorldStep) (k : ℕ) (w : World) (n : Node) (by : Option Arrival) (e : NodeEvent) → Comes D w k n by e
+    → EachAct k by (Known S place k) (KeepsGiven (Amid w T place) (AllSent S))
 each_act S T place D k w n by e come = record {
   puts = λ u name o known a. sent-puts_by S u k name (Message o) a.knows.holds (λ is. subst (λ p. IsSentBy S k (record { octets = o; sent_at = p })) (sym a.knows.at.steps) (known name o refl is));
   closes = λ u name a. sent-puts_by S u k name Closed a.knows.holds tt;
@@ -146,13 +155,15 @@ abbrev pub IsCounted : Sendings → ℕ → WorldStep → Type 0
 IsCounted S place D = (k : ℕ) (dest : Vmac) (npdu : List ℕ) → D ≡ OfNode k (Send dest npdu) → S place k dest npdu
 
 -- an event comes to a node
-sent-hears : (S : Sendings) (T place : ℕ) (D : WorldStep) → IsCounted S place D → (w : World) (k : ℕ) (n : Node) (by : Option Arrival) (e : NodeEvent) → node_at w k ≡ Some n → Comes D w k n by e → fits n.log e ≡ true
+sent-hears : (S : Sendings) (T place : ℕ) (D : WorldStep) → IsCounted S place D → (w : World) (k : ℕ) (n : Node) (by : Option Arrival) (e : NodeEvent) → node_at w k ≡ Some n
+    → Comes D w k n by e → fits n.log e ≡ true
     → KeepsGiven (Knows T place) (AllSent S) w (hears k by (record { now = w.now; event = e }) n w)
 sent-hears S T place D sends w k n by e here come fit m =
     hears-beside k by (Known S place k) (Amid w T place) (AllSent S) (amid T place D k w n by e come) (each_act S T place D k w n by e come) (record { now = w.now; event = e }) n w
     (amid-first T place w m) (amid-log T place D k n by e w here come fit m) (λ s. s)
     (λ action among name o is npdu.
-    put_is_sent S place w.now D w k n by e name o (subst (λ t. t < 2 ^ 62) (sym m.at.now) m.at.below) (subst (λ t. Timely t n.log) (sym m.at.now) (all-at (λ (x : Node). Timely T x.log) w.nodes k n m.at.timely here)) come fit
+    put_is_sent S place w.now D w k n by e name o (subst (λ t. t < 2 ^ 62) (sym m.at.now) m.at.below)
+    (subst (λ t. Timely t n.log) (sym m.at.now) (all-at (λ (x : Node). Timely T x.log) w.nodes k n m.at.timely here)) come fit
     (sends k) (subst (λ (a : Action). Among a (filter_map action_of (brings_about n.made (record { now = w.now; event = e }) n.log))) is among) npdu)
 
 -- where the link leads, by what is known of the side

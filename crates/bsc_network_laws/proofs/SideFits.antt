@@ -1,4 +1,5 @@
 -- What stands on the way down from a hub is what was taken from the outbox, after each step.
+-- It serves clauses of functions of `laws`.
 use Rattle.std.proofs.Common.{◌≡◌, ◌≤◌, ℕ, suc, Bool, true, false, ◌||◌, cond, List, [], ◌∷◌, ◌++◌, Option, Some, None, refl, ap, sym, arith, ◌∙◌, append-nil}
 use Rattle.std.specs.Prelude.{◌+◌, length, filter_map, take, slice_get, is_some, ⊤}
 use Rattle.std.proofs.lemmas.List.{length-append}
@@ -10,7 +11,7 @@ use Rattle.bsc_frame.specs.declared.body.Body.{Body}
 use Rattle.bsc_frame.specs.declared.body.Body.TheVariants.{DisconnectRequest, HeartbeatRequest}
 use Rattle.bsc_checks.specs.declared.verdict.Verdict.{Verdict}
 use Rattle.bsc_checks.specs.declared.verdict.Verdict.TheVariants.{Pass, Carry as Carried, Silent, Nak}
-use Rattle.bsc_accept.specs.declared.farewell.Farewell.{Farewell}
+use Rattle.bsc_accept.specs.declared.pending_disconnect.PendingDisconnect.{PendingDisconnect}
 use Rattle.bsc_accept.specs.declared.event.Event.{Event}
 use Rattle.bsc_accept.specs.declared.event.Event.TheVariants.{Joined as HasJoined}
 use Rattle.bsc_accept.specs.declared.step.Step.{Step}
@@ -86,7 +87,8 @@ side-posted h p k fits = record {
 pub joined-more : (E : List Event) (e : Event) → is_some (since_joined (E ++ e ∷ [])) ≡ (is_some (since_joined E) || is_joined e)
 joined-more [] e = elim (is_joined e) as (λ b. is_some {T = List Event} (cond b (Some []) None) ≡ b) [ true ↦ refl | false ↦ refl ]
 joined-more (x ∷ E) e =
-    elim (is_joined x) as (λ b. is_some (cond b (Some (E ++ e ∷ [])) (since_joined (E ++ e ∷ []))) ≡ (is_some (cond b (Some E) (since_joined E)) || is_joined e)) [ true ↦ refl | false ↦ joined-more E e ]
+    elim (is_joined x) as (λ b. is_some (cond b (Some (E ++ e ∷ [])) (since_joined (E ++ e ∷ [])))
+    ≡ (is_some (cond b (Some E) (since_joined E)) || is_joined e)) [ true ↦ refl | false ↦ joined-more E e ]
 
 pub side-told : (h : Hub) (k : Link) (e : Event) → is_joined e ≡ false → SideFits h k → SideFits h (record k { side = record k.side { events = k.side.events ++ e ∷ [] } })
 side-told h k e other fits = record {
@@ -140,7 +142,7 @@ asks-connected id HeartbeatRequest = refl
 asks-connected id DisconnectRequest = refl
 asks-connected id body = refl
 
-asks-farewell : (o : Option Farewell) (v : Verdict) → asks (message_step (until_farewell o) v) ≡ false
+asks-farewell : (o : Option PendingDisconnect) (v : Verdict) → asks (message_step (until_farewell o) v) ≡ false
 asks-farewell None (Pass msg) = asks-connected msg.id msg.body
 asks-farewell (Some f) (Pass msg) = asks-if (is_farewell_answer f.id msg) _ _ refl refl
 asks-farewell None (Carried envelope) = refl

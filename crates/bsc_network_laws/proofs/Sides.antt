@@ -1,4 +1,5 @@
 -- Where a link leads to a hub, what its side does is what it does with that hub and that link.
+-- It serves clauses of functions of `laws`.
 use Rattle.std.proofs.Common.{◌≡◌, ℕ, false, [], ◌∷◌, ◌++◌, Option, Some, None, refl, ap, sym, subst, ◌∙◌}
 use Rattle.std.specs.Option.{option_map}
 use Rattle.bsc_history.specs.declared.call.Call.{Call}
@@ -62,10 +63,12 @@ lets-of_side R w l change none f = by_number R w l change (link_at w l) refl non
 pub side-link : (w : World) (l j : ℕ) (h : Hub) (k : Link) (f : Link → Link) → (f k).to ≡ k.to → (f k).side.is_over ≡ k.side.is_over → IsSide w l j h k → IsSide (with_link l f w) l j h (f k)
 side-link w l j h k f keeps goes side = record { hub = side.hub; link = get-changed l f w.links ∙ ap (option_map f) side.link; leads = keeps ∙ side.leads; going = goes ∙ side.going }
 
-pub side-side : (w : World) (l j : ℕ) (h : Hub) (k : Link) (f : HubSide → HubSide) → (f k.side).is_over ≡ k.side.is_over → IsSide w l j h k → IsSide (with_side l f w) l j h (record k { side = f k.side })
+pub side-side : (w : World) (l j : ℕ) (h : Hub) (k : Link) (f : HubSide → HubSide) → (f k.side).is_over ≡ k.side.is_over → IsSide w l j h k
+    → IsSide (with_side l f w) l j h (record k { side = f k.side })
 side-side w l j h k f goes side = side-link w l j h k (λ link. record link { side = f link.side }) refl goes side
 
-pub side-puts : (w : World) (l j place : ℕ) (h : Hub) (k : Link) (content : Content) → IsSide w l j h k → IsSide (puts_at l Down place content w) l j h (with_traffic Down (and_then (record { content = content; sent_at = place })) k)
+pub side-puts : (w : World) (l j place : ℕ) (h : Hub) (k : Link) (content : Content) → IsSide w l j h k
+    → IsSide (puts_at l Down place content w) l j h (with_traffic Down (and_then (record { content = content; sent_at = place })) k)
 side-puts w l j place h k content side = side-link w l j h k (with_traffic Down (and_then (record { content = content; sent_at = place }))) refl refl side
 
 -- a hub on which a call was made
@@ -73,4 +76,9 @@ abbrev pub with_call : World → ℕ → ℕ → Call → Hub → Hub
 with_call w caller place call h = record h { posted = h.posted ++ record { entry = entry_in w h caller call; sent_at = place } ∷ [] }
 
 pub side-called : (w : World) (l j place : ℕ) (h : Hub) (k : Link) (call : Call) → IsSide w l j h k → IsSide (called j l place call w) l j (with_call w l place call h) k
-side-called w l j place h k call side = record { hub = get-changed j (with_call w l place call) w.hubs ∙ ap (option_map (with_call w l place call)) side.hub; link = side.link; leads = side.leads; going = side.going }
+side-called w l j place h k call side = record {
+  hub = get-changed j (with_call w l place call) w.hubs ∙ ap (option_map (with_call w l place call)) side.hub;
+  link = side.link;
+  leads = side.leads;
+  going = side.going;
+}

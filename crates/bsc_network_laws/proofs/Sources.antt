@@ -1,4 +1,5 @@
 -- After each step, each delivery comes from the Send at its place, where each does of which a hub put the message.
+-- It serves clauses of functions of `laws`.
 use Rattle.std.proofs.Common.{◌≡◌, ◌<◌, ◌⊎◌, inl, inr, ℕ, true, false, List, ◌∷◌, ◌++◌, Option, Some, None, refl, ap, sym, subst, ◌∙◌, append_assoc}
 use Rattle.std.specs.Prelude.{◌^◌, IsTrue, ⊤}
 use Rattle.std.specs.List.{AllByRecursion}
@@ -147,14 +148,25 @@ delivered-from law S cast T place D w k n by e here come m direct hubs may d amo
     filtered : Among (Deliver d) (delivered_at n.made n.log (at_once w.now e))
     filtered = among-filter _ (Deliver d) (actions_at n.made n.log (at_once w.now e)) refl among
 
-    by_end : (name : LinkName) (o : List ℕ) (msg : Message) (npdu : List ℕ) (v : Vmac) (c : CameBy w k n name o by) → e ≡ Came name o → verdict n.made (with_event n.log (at_once w.now e)) name o ≡ Pass msg → msg.body ≡ Npdu npdu
+    by_end : (name : LinkName) (o : List ℕ) (msg : Message) (npdu : List ℕ) (v : Vmac) (c : CameBy w k n name o by) → e ≡ Came name o
+        → verdict n.made (with_event n.log (at_once w.now e)) name o ≡ Pass msg → msg.body ≡ Npdu npdu
         → sender name msg (with_heard n.made n.log (at_once w.now e) name o) ≡ Some v → (t : Target) → putter c.arrival.way c.link ≡ t
         → IsFrom S later (record { sent_at = c.arrival.sent_at; node = k; delivered = delivery msg npdu v })
     by_end name o msg npdu v c comes passed body from (ToHub j) puts =
         from-lasts S w later (record { sent_at = c.arrival.sent_at; node = k; delivered = delivery msg npdu v }) (lasts-log w k (at_once w.now e))
         (hubs name o c j msg npdu v comes puts passed body from)
     by_end name o msg npdu v c comes passed body from (ToNode j) puts =
-        let r = came_directly S cast w k n by e name o j (record { ends = m.1; direct = direct; casts = m.0.0.1; here = here; may = may; came = comes; over = c; puts = puts; law = law }) msg npdu v passed body from in
+        let r = came_directly S cast w k n by e name o j (record {
+          ends = m.1;
+          direct = direct;
+          casts = m.0.0.1;
+          here = here;
+          may = may;
+          came = comes;
+          over = c;
+          puts = puts;
+          law = law;
+        }) msg npdu v passed body from in
         (j, r.0, r.1, inr r.2)
 
     of_once : IsDeliveredOnce n.made n.log (at_once w.now e) → IsFrom S later (record { sent_at = a.sent_at; node = k; delivered = d })
@@ -198,7 +210,8 @@ each_act S cast T place k before w by = record {
       let one : WorldDelivery = record { sent_at = b.sent_at; node = k; delivered = d } in
       record {
         grown = lasts-then w u _ i.grown g;
-        from = all-one_more (IsFrom S _) u.delivered one (all-mapped (IsFrom S u) (IsFrom S _) (λ x. from-lasts S u _ x g) u.delivered i.from) (from-lasts S w _ one (lasts-then w u _ i.grown g) (known b is));
+        from = all-one_more (IsFrom S _) u.delivered one (all-mapped (IsFrom S u) (IsFrom S _) (λ x. from-lasts S u _ x g) u.delivered i.from)
+            (from-lasts S w _ one (lasts-then w u _ i.grown g) (known b is));
       };
 }
   where

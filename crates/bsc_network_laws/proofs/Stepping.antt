@@ -1,4 +1,5 @@
 -- What holds of each move holds of each step of a network.
+-- It serves clauses of functions of `laws`.
 use Rattle.std.proofs.Common.{◌≡◌, inl, inr, ℕ, zero, suc, Bool, true, false, not, List, [], ◌∷◌, Option, Some, None, refl, ap, sym, arith, ◌∙◌}
 use Rattle.std.specs.Prelude.{◌+◌, ◌&&◌, if◌then◌else◌, is_some}
 use Rattle.std.specs.Option.{option_map}
@@ -45,7 +46,8 @@ use Rattle.std.proofs.lemmas.Option.{same_Some as some_same}
 
 -- ---- an event comes to a node
 
-lets-once : (B : World) (D : WorldStep) (R : World → World → Type 0) → Lets B D R → (w : World) (k : ℕ) (by : Option Arrival) (e : NodeEvent) → ((n : Node) → node_at w k ≡ Some n → Comes D w k n by e) → ComesFirst B w by e → R w (comes_once k by e w)
+lets-once : (B : World) (D : WorldStep) (R : World → World → Type 0) → Lets B D R → (w : World) (k : ℕ) (by : Option Arrival) (e : NodeEvent)
+    → ((n : Node) → node_at w k ≡ Some n → Comes D w k n by e) → ComesFirst B w by e → R w (comes_once k by e w)
 lets-once B D R M w k by e come first =
     found R (node_at w k) (λ n w. (if fits n.log e then hears k by (record { now = w.now; event = e }) n else unchanged) w) w (M.none w) (λ n here.
     chosen R (fits n.log e) (hears k by (record { now = w.now; event = e }) n) unchanged w (λ fit. M.each.hears w k n by e here (come n here) fit first) (λ dropped. M.none w))
@@ -57,13 +59,15 @@ lets-failures B D R M (suc most) k (name ∷ names) w =
     let v = forgets_failure names w in
     let told : World = comes_once k None (DialFailed name) v in
     M.then w v (hears_failures most k told.failed told) (M.each.forgets w names)
-    (M.then v told (hears_failures most k told.failed told) (lets-once B D R M v k None (DialFailed name) (λ n here. inr (inr (name, refl))) (λ own. absurd (no_own own))) (lets-failures B D R M most k told.failed told))
+    (M.then v told (hears_failures most k told.failed told) (lets-once B D R M v k None (DialFailed name) (λ n here. inr (inr (name, refl))) (λ own. absurd (no_own own)))
+    (lets-failures B D R M most k told.failed told))
   where
     no_own : is_own (DialFailed name) ≡ true → ⊥
     no_own own = cc
 
 -- What holds of each move holds where an event comes to a node.
-pub lets-comes : (B : World) (D : WorldStep) (R : World → World → Type 0) → Lets B D R → (w : World) (k : ℕ) (by : Option Arrival) (e : NodeEvent) → ((n : Node) → node_at w k ≡ Some n → Comes D w k n by e) → ComesFirst B w by e → R w (comes k by e w)
+pub lets-comes : (B : World) (D : WorldStep) (R : World → World → Type 0) → Lets B D R → (w : World) (k : ℕ) (by : Option Arrival) (e : NodeEvent)
+    → ((n : Node) → node_at w k ≡ Some n → Comes D w k n by e) → ComesFirst B w by e → R w (comes k by e w)
 lets-comes B D R M w k by e come first =
     found R (node_at w k) (λ n. in_order (comes_once k by e ∷ hears_all_failures (most_failures n) k ∷ [])) w (M.none w) (λ n here.
     let v : World = comes_once k by e w in
@@ -71,7 +75,8 @@ lets-comes B D R M w k by e come first =
 
 -- ---- what arrives at a node
 
-lets-reaches_node : (B : World) (D : WorldStep) (R : World → World → Type 0) → Lets B D R → (w : World) (l : ℕ) (way : Way) (k : ℕ) (content : Content) (place : ℕ) → IsHeardBy w l way k → HasArrived w l way (record { content = content; sent_at = place })
+lets-reaches_node : (B : World) (D : WorldStep) (R : World → World → Type 0) → Lets B D R → (w : World) (l : ℕ) (way : Way) (k : ℕ) (content : Content) (place : ℕ) → IsHeardBy w l way k
+    → HasArrived w l way (record { content = content; sent_at = place })
     → w ≡ after_arrival l way B → R w (reaches_node l way (record { content = content; sent_at = place }) k w)
 lets-reaches_node B D R M w l way k content place heard came first =
     let by : Option Arrival = Some (record { link = l; way = way; sent_at = place }) in
@@ -81,7 +86,8 @@ lets-reaches_node B D R M w l way k content place heard came first =
 
 -- ---- what arrives at a hub's side
 
-lets-reaches_hub : (B : World) (D : WorldStep) (R : World → World → Type 0) → Lets B D R → (w : World) (l : ℕ) (content : Content) (place : ℕ) → HasArrived w l Up (record { content = content; sent_at = place })
+lets-reaches_hub : (B : World) (D : WorldStep) (R : World → World → Type 0) → Lets B D R → (w : World) (l : ℕ) (content : Content) (place : ℕ)
+    → HasArrived w l Up (record { content = content; sent_at = place })
     → w ≡ after_arrival l Up B → R w (reaches_hub l (record { content = content; sent_at = place }) w)
 lets-reaches_hub B D R M w l content place came first =
     lets-of_side R w l (λ j h link. if link.side.is_over then unchanged else reaches_side l place content) (M.none w) (λ j h k side.
@@ -94,7 +100,8 @@ lets-reaches_hub B D R M w l content place came first =
 
 -- ---- by what a link leads to
 
-target : (R : World → World → Type 0) (w : World) (t : Target) (at_hub at_node : ℕ → Change) → ((j : ℕ) → t ≡ ToHub j → R w (at_hub j w)) → ((k : ℕ) → t ≡ ToNode k → R w (at_node k w)) → R w (by_target t at_hub at_node w)
+target : (R : World → World → Type 0) (w : World) (t : Target) (at_hub at_node : ℕ → Change) → ((j : ℕ) → t ≡ ToHub j → R w (at_hub j w)) → ((k : ℕ) → t ≡ ToNode k → R w (at_node k w))
+    → R w (by_target t at_hub at_node w)
 target R w (ToHub j) at_hub at_node f g = f j refl
 target R w (ToNode k) at_hub at_node f g = g k refl
 
@@ -120,10 +127,12 @@ front_arrived w l way k x here is = record {
   last = omega arith;
 }
 
-heard_at : (w : World) (l : ℕ) (way on : Way) (f : Traffic → Traffic) (k : Link) (t : Target) → link_at w l ≡ Some k → receiver way k ≡ t → option_map (receiver way) (link_at (with_link l (with_traffic on f) w) l) ≡ Some t
+heard_at : (w : World) (l : ℕ) (way on : Way) (f : Traffic → Traffic) (k : Link) (t : Target) → link_at w l ≡ Some k → receiver way k ≡ t
+    → option_map (receiver way) (link_at (with_link l (with_traffic on f) w) l) ≡ Some t
 heard_at w l way on f k t here is = kept-at (receiver way) l (with_traffic on f) (receiver-with way on f) w.links l ∙ ap (option_map (receiver way)) here ∙ ap Some is
 
-lets-reaches : (B : World) (D : WorldStep) (R : World → World → Type 0) → Lets B D R → (w v : World) (l : ℕ) (way : Way) (k : Link) (content : Content) (place : ℕ) → ((t : Target) → receiver way k ≡ t → option_map (receiver way) (link_at v l) ≡ Some t)
+lets-reaches : (B : World) (D : WorldStep) (R : World → World → Type 0) → Lets B D R → (w v : World) (l : ℕ) (way : Way) (k : Link) (content : Content) (place : ℕ)
+    → ((t : Target) → receiver way k ≡ t → option_map (receiver way) (link_at v l) ≡ Some t)
     → HasArrived v l way (record { content = content; sent_at = place }) → v ≡ after_arrival l way B → R v (reaches l way k (record { content = content; sent_at = place }) v)
 lets-reaches B D R M w v l Down k content place heard came first = lets-reaches_node B D R M v l Down k.from content place (heard (ToNode k.from) refl) came first
 lets-reaches B D R M w v l Up k content place heard came first =
@@ -156,7 +165,8 @@ lets-side_lost B D R M w l =
 
 lets-is_lost : (B : World) (D : WorldStep) (R : World → World → Type 0) → Lets B D R → (w : World) (l : ℕ) → R w (is_lost l w)
 lets-is_lost B D R M w l =
-    found R (link_at w l) (λ link. in_order (with_link l (λ it. record it { is_lost = true }) ∷ loses l Down link.from ∷ by_target link.to (λ j. unless_over l (leaves l)) (loses l Up) ∷ [])) w (M.none w) (λ k here.
+    found R (link_at w l) (λ link. in_order (with_link l (λ it. record it { is_lost = true }) ∷ loses l Down link.from ∷ by_target link.to (λ j. unless_over l (leaves l)) (loses l Up)
+    ∷ [])) w (M.none w) (λ k here.
     let gone = with_link l (λ it. record it { is_lost = true }) w in
     let told = loses l Down k.from gone in
     let last = by_target k.to (λ j. unless_over l (leaves l)) (loses l Up) told in
@@ -174,7 +184,8 @@ own_event (Some m) n e h is = by (is_own e && is_timely m e) refl h
     by true passes g = and_left (is_own e) (is_timely m e) passes
     by false passes g = cc
 
-lets-stop : (B : World) (D : WorldStep) (R : World → World → Type 0) → Lets B D R → (w : World) (j : ℕ) (o : Option Hub) → hub_at w j ≡ o → refuses_stop o ≡ None → R w (called j no_link w.steps StopCall w)
+lets-stop : (B : World) (D : WorldStep) (R : World → World → Type 0) → Lets B D R → (w : World) (j : ℕ) (o : Option Hub) → hub_at w j ≡ o → refuses_stop o ≡ None
+    → R w (called j no_link w.steps StopCall w)
 lets-stop B D R M w j None at h = cc
 lets-stop B D R M w j (Some hub) at h = by (is_stopped (history hub)) refl h
   where

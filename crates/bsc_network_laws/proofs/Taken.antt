@@ -1,4 +1,5 @@
 -- After each step, what stands on the way down from a hub is what was taken from the outbox.
+-- It serves clauses of functions of `laws`.
 use Rattle.std.proofs.Common.{◌≡◌, ◌⊎◌, inl, inr, ℕ, Bool, false, List, [], ◌∷◌, ◌++◌, Option, Some, None, refl, ap, sym, subst, ◌∙◌}
 use Rattle.std.specs.Prelude.{◌+◌, ◌||◌, slice_get, is_some, ⊤}
 use Rattle.std.specs.List.{AllByRecursion}
@@ -72,7 +73,8 @@ sides-link : (w : World) (l : ℕ) (f : Link → Link) → ((k : Link) → (f k)
 sides-link w l f to keeps = all-changed (LinkFits w.hubs) l f (λ k fits j h is at. keeps h k (fits j h (sym (to k) ∙ is) at)) w.links
 
 -- by a change of what is known to be there
-sides-here : (w : World) (l : ℕ) (f : Link → Link) → ((k : Link) → (f k).to ≡ k.to) → ((j : ℕ) (h : Hub) (k : Link) → link_at w l ≡ Some k → k.to ≡ ToHub j → hub_at w j ≡ Some h → SideFits h k → SideFits h (f k)) → SidesFit w → SidesFit (with_link l f w)
+sides-here : (w : World) (l : ℕ) (f : Link → Link) → ((k : Link) → (f k).to ≡ k.to)
+    → ((j : ℕ) (h : Hub) (k : Link) → link_at w l ≡ Some k → k.to ≡ ToHub j → hub_at w j ≡ Some h → SideFits h k → SideFits h (f k)) → SidesFit w → SidesFit (with_link l f w)
 sides-here w l f to keeps = all-changed_here (LinkFits w.hubs) l f w.links (λ k here fits j h is at. keeps j h k here (sym (to k) ∙ is) at (fits j h (sym (to k) ∙ is) at))
 
 -- ---- a hub has one entry more
@@ -143,7 +145,8 @@ lets_acts D k w n by e come = record {
     M = Holding.lets_acts D k w n by e come
 
 -- a peer joins
-sides-joins : (w : World) (l c : ℕ) → ((k : Link) → link_at w l ≡ Some k → is_some (since_joined k.side.events) ≡ false) → SidesFit w → SidesFit (told l HasJoined (with_side l (λ s. record s { conn = Some c }) w))
+sides-joins : (w : World) (l c : ℕ) → ((k : Link) → link_at w l ≡ Some k → is_some (since_joined k.side.events) ≡ false) → SidesFit w
+    → SidesFit (told l HasJoined (with_side l (λ s. record s { conn = Some c }) w))
 sides-joins w l c before s =
     subst (AllByRecursion (LinkFits w.hubs))
     (sym (changed-twice l (λ (k : Link). record k { side = record k.side { conn = Some c } }) (λ (k : Link). record k { side = record k.side { events = k.side.events ++ HasJoined ∷ [] } }) w.links))
@@ -161,7 +164,8 @@ sides-takes : (w : World) (l j : ℕ) (h : Hub) (k : Link) (c : ℕ) (f : Frame)
     → SidesFit w → SidesFit (puts_at l Down f.sent_at (Message f.octets) (with_side l (λ s. record s { taken = s.taken + 1 }) w))
 sides-takes w l j h k c f side conn is s =
     subst (AllByRecursion (LinkFits w.hubs))
-    (sym (changed-twice l (λ (x : Link). record x { side = record x.side { taken = x.side.taken + 1 } }) (with_traffic Down (and_then (record { content = Message f.octets; sent_at = f.sent_at }))) w.links))
+    (sym (changed-twice l (λ (x : Link). record x { side = record x.side { taken = x.side.taken + 1 } })
+    (with_traffic Down (and_then (record { content = Message f.octets; sent_at = f.sent_at }))) w.links))
     (all-changed_here (LinkFits w.hubs) l _ w.links one s)
   where
     one : (x : Link) → link_at w l ≡ Some x → LinkFits w.hubs x
@@ -183,9 +187,17 @@ lets D = record {
   none = keeps-none;
   then = keeps-then;
   each = record {
-    over = λ w l. record { base = M.each.over w l; sides = λ fit. sides-link w l _ (λ k. refl) (λ h k fits. record { down = fits.down; within = fits.within; none = fits.none; joined = fits.joined }) };
+    over = λ w l. record {
+      base = M.each.over w l;
+      sides = λ fit. sides-link w l _ (λ k. refl)
+          (λ h k fits. record { down = fits.down; within = fits.within; none = fits.none; joined = fits.joined });
+    };
     tells = λ w l j h k e other side. record { base = M.each.tells w l j h k e other side; sides = λ fit. sides-link w l _ (λ x. refl) (λ g x. side-told g x e other) };
-    empty = λ w l. record { base = M.each.empty w l; sides = λ fit. sides-link w l _ (λ k. refl) (λ h k fits. record { down = fits.down; within = fits.within; none = fits.none; joined = fits.joined }) };
+    empty = λ w l. record {
+      base = M.each.empty w l;
+      sides = λ fit. sides-link w l _ (λ k. refl)
+          (λ h k fits. record { down = fits.down; within = fits.within; none = fits.none; joined = fits.joined });
+    };
     closes_down = λ w l. record { base = M.each.closes_down w l; sides = λ fit. sides-down w l Closed w.steps tt };
     hub_puts = λ w l j h k st o side wanted is. record { base = M.each.hub_puts w l j h k st o side wanted is; sides = λ fit. sides-down w l (Message o) w.steps (own_is_none h.about st wanted o is) };
     leaves = λ w l j h k c side conn. record { base = M.each.leaves w l j h k c side conn; sides = λ fit. sides-called w j l w.steps _ };
@@ -193,14 +205,20 @@ lets D = record {
     asks = λ w l j place h k m who side came said is. record { base = M.each.asks w l j place h k m who side came said is; sides = λ fit. sides-called w j l place (Connect who) };
     joins = λ w l j place h k m who c replaced side came said is. record {
       base = M.each.joins w l j place h k m who c replaced side came said is;
-      sides = λ fit s. sides-joins (called j l place (Connect who) w) l c (λ x here. ap (λ (y : Link). is_some (since_joined y.side.events)) (some_same x k (sym here ∙ side.link)) ∙ not_joined h k m who said) (sides-called w j l place (Connect who) s);
+      sides = λ fit s. sides-joins (called j l place (Connect who) w) l c (λ x here. ap (λ (y : Link). is_some (since_joined y.side.events)) (some_same x k (sym here ∙ side.link))
+          ∙ not_joined h k m who said) (sides-called w j l place (Connect who) s);
     };
     forwards = λ w l j place h k m c side conn came said. record { base = M.each.forwards w l j place h k m c side conn came said; sides = λ fit. sides-called w j l place (Forward c m) };
     takes = λ w l j h k c f side conn is. record { base = M.each.takes w l j h k c f side conn is; sides = λ fit s. sides-takes w l j h k c f side conn is s };
-    hears = λ w k n by e here come fit. lets-hears k by (λ action. ⊤) (KeepsFrom w) (lets_acts D k w n by e come) _ n w (λ from. record { base = keep-log w k _; sides = λ fit s. s }) (λ action among. tt) (keep-none w);
+    hears = λ w k n by e here come fit. lets-hears k by (λ action. ⊤) (KeepsFrom w) (lets_acts D k w n by e come) _ n w (λ from. record { base = keep-log w k _; sides = λ fit s. s })
+        (λ action among. tt) (keep-none w);
     forgets = λ w later. record { base = M.each.forgets w later; sides = λ fit s. s };
     arrives = λ w l way k x here is. record { base = M.each.arrives w l way k x here is; sides = λ fit. sides-arrives w l way };
-    loses = λ w l. record { base = M.each.loses w l; sides = λ fit. sides-link w l _ (λ k. refl) (λ h k fits. record { down = fits.down; within = fits.within; none = fits.none; joined = fits.joined }) };
+    loses = λ w l. record {
+      base = M.each.loses w l;
+      sides = λ fit. sides-link w l _ (λ k. refl)
+          (λ h k fits. record { down = fits.down; within = fits.within; none = fits.none; joined = fits.joined });
+    };
   };
 }
   where

@@ -1,5 +1,6 @@
 -- After each step no node awaits a word, and none has met a time that is still to come. So each event that comes to a node is one
 -- that may come, on which the laws of a node stand.
+-- It serves clauses of functions of `laws`.
 use Rattle.std.proofs.Common.{◌≡◌, ◌≤◌, ◌<◌, inl, inr, ℕ, Bool, true, false, [], ◌∷◌, ◌++◌, Option, Some, None, refl, ap, sym, subst, ◌∙◌, append_assoc}
 use Rattle.std.specs.Prelude.{◌^◌, IsTrue, if◌then◌else◌, map, ⊤}
 use Rattle.std.specs.List.{AllByRecursion, list_any}
@@ -100,7 +101,12 @@ abbrev pub Keep : ℕ → ℕ → World → World → Type 0
 Keep T place u v = At T place u → At T place v
 
 at-holds : (T place k : ℕ) (h : Hold) (w : World) → Keep T place w (holds k h w)
-at-holds T place k h w at = record { below = at.below; now = at.now; steps = at.steps; timely = all-changed (λ (n : Node). Timely T n.log) k (λ n. record n { holds = n.holds ++ h ∷ [] }) (λ n calm. calm) w.nodes at.timely }
+at-holds T place k h w at = record {
+  below = at.below;
+  now = at.now;
+  steps = at.steps;
+  timely = all-changed (λ (n : Node). Timely T n.log) k (λ n. record n { holds = n.holds ++ h ∷ [] }) (λ n calm. calm) w.nodes at.timely;
+}
 
 pub at-same : (T place : ℕ) (u v : World) → v.now ≡ u.now → v.steps ≡ u.steps → v.nodes ≡ u.nodes → Keep T place u v
 at-same T place u v now steps nodes at = record { below = at.below; now = now ∙ at.now; steps = steps ∙ at.steps; timely = subst (AllByRecursion (λ (n : Node). Timely T n.log)) (sym nodes) at.timely }
@@ -116,7 +122,8 @@ at-puts_by T place k name content w = at_node (node_at w k)
     at_node None at = at
     at_node (Some n) at = at_hold (hold_of name n) at
 
-pub at-log : (T place : ℕ) (D : WorldStep) (k : ℕ) (n : Node) (by : Option Arrival) (e : NodeEvent) (w : World) → node_at w k ≡ Some n → Comes D w k n by e → fits n.log e ≡ true → Keep T place w (goes_on_in k (record { now = w.now; event = e }) w)
+pub at-log : (T place : ℕ) (D : WorldStep) (k : ℕ) (n : Node) (by : Option Arrival) (e : NodeEvent) (w : World) → node_at w k ≡ Some n → Comes D w k n by e → fits n.log e ≡ true
+    → Keep T place w (goes_on_in k (record { now = w.now; event = e }) w)
 at-log T place D k n by e w here come fit at = record {
   below = at.below;
   now = at.now;

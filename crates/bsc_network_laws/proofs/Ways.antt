@@ -1,4 +1,5 @@
 -- Of each way no more has arrived than was put on it, after each step.
+-- It serves clauses of functions of `laws`.
 use Rattle.std.proofs.Common.{◌≡◌, ◌≤◌, ◌<◌, ℕ, true, [], ◌∷◌, ◌++◌, Option, Some, None, ap, sym, arith, ◌∙◌}
 use Rattle.std.specs.Prelude.{◌+◌, length, ⊤}
 use Rattle.std.specs.List.{AllByRecursion}
@@ -103,7 +104,8 @@ lets D = record {
     leaves = λ w l j h k c side conn all. all;
     stops = λ w j h here is all. all;
     asks = λ w l j place h k m who side came said is all. all;
-    joins = λ w l j place h k m who c replaced side came said is all. keep-side (with_side l (λ s. record s { conn = Some c }) (called j l place (Connect who) w)) l _ (keep-side (called j l place (Connect who) w) l _ all);
+    joins = λ w l j place h k m who c replaced side came said is all. keep-side (with_side l (λ s. record s { conn = Some c }) (called j l place (Connect who) w)) l _
+        (keep-side (called j l place (Connect who) w) l _ all);
     forwards = λ w l j place h k m c side conn came said all. all;
     takes = λ w l j h k c f side conn is all. keep-puts (with_side l (λ s. record s { taken = s.taken + 1 }) w) l Down _ (keep-side w l _ all);
     hears = λ w k n by e here come fit. lets-hears k by (λ action. ⊤) Keep (lets_acts k by) _ n w (λ all. all) (λ action among. tt);

@@ -1,4 +1,5 @@
 -- What holds of each move holds where the end of a session is one move; and what is kept there, where another thing holds.
+-- It serves clauses of functions of `laws`.
 use Rattle.std.proofs.Common.{true}
 use Rattle.bsc_history.specs.declared.call.Call.TheVariants.{Leave}
 use Rattle.bsc_network.specs.declared.world_step.WorldStep.{WorldStep}
@@ -92,7 +93,10 @@ together_whole D P Inv M N = record {
     leaves = λ w l j h k c side conn p. (M.each.leaves w l j h k c side conn p.0, N.leaves w l j h k c side conn p.0 p.1);
     stops = λ w j h here is p. (M.each.stops w j h here is p.0, N.stops w j h here is p.0 p.1);
     asks = λ w l j place h k m who side came said is p. (M.each.asks w l j place h k m who side came said is p.0, N.asks w l j place h k m who side came said is p.0 p.1);
-    joins = λ w l j place h k m who c replaced side came said is p. (M.each.joins w l j place h k m who c replaced side came said is p.0, N.joins w l j place h k m who c replaced side came said is p.0 p.1);
+    joins = λ w l j place h k m who c replaced side came said is p. (
+      M.each.joins w l j place h k m who c replaced side came said is p.0,
+      N.joins w l j place h k m who c replaced side came said is p.0 p.1,
+    );
     forwards = λ w l j place h k m c side conn came said p. (M.each.forwards w l j place h k m c side conn came said p.0, N.forwards w l j place h k m c side conn came said p.0 p.1);
     takes = λ w l j h k c f side conn is p. (M.each.takes w l j h k c f side conn is p.0, N.takes w l j h k c f side conn is p.0 p.1);
     hears = λ w k n by e here come fit p. (M.each.hears w k n by e here come fit p.0, N.hears w k n by e here come fit p.0 p.1);

@@ -1,5 +1,6 @@
 -- A network written out, of those that the theorem speaks of, in which a unicast, a broadcast, a direct connection and a takeover
 -- deliver.
+-- No clause needs it: worked examples.
 use Rattle.std.proofs.Common.{◌≡◌, ◌<◌, ℕ, ◌==◌, Bool, true, not, ◌&&◌, List, [], ◌∷◌, ◌++◌, refl, ap, arith}
 use Rattle.std.specs.Prelude.{nat_lt, length, slice_index}
 use Rattle.std.specs.List.{AllByRecursion, list_all}
@@ -79,7 +80,16 @@ may_make (s ∷ steps) h g = (
 )
 
 hub_fits : IsHub (record { hub = peer 0xF0 0xF0; limits = record { rows = 256; outbox = 64; calls = 1099511627776; callers = 4096 } })
-hub_fits = record { some_rows = omega arith; few_rows = omega arith; some_room = omega arith; little_room = omega arith; some_calls = omega arith; few_calls = omega arith; some_callers = omega arith; few_callers = omega arith }
+hub_fits = record {
+  some_rows = omega arith;
+  few_rows = omega arith;
+  some_room = omega arith;
+  little_room = omega arith;
+  some_calls = omega arith;
+  few_calls = omega arith;
+  some_callers = omega arith;
+  few_callers = omega arith;
+}
 
 is_course : IsCourse network (at 0 course)
 is_course = record {

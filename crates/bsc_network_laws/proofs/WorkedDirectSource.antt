@@ -1,4 +1,5 @@
 -- A delivery over a direct connection of a network that is written out has its source, as the theorem says it.
+-- No clause needs it: worked examples.
 use Rattle.std.proofs.Common.{◌≡◌, inr, Bool, true, false, cond, [], ◌∷◌, ◌++◌, Some, refl, ap}
 use Rattle.std.specs.Prelude.{List, find, slice_get, unwrap_or}
 use Rattle.std.specs.List.{list_any}

@@ -1,5 +1,6 @@
 -- Why a step may be made only where what is sent goes to an address of six octets: what is sent to one of none has the octets of another
 -- message, and would be delivered so.
+-- No clause needs it: worked examples.
 use Rattle.std.proofs.Common.{◌≡◌, List, [], ◌∷◌, ◌++◌, Some, refl}
 use Rattle.std.specs.Prelude.{slice_get}
 use Rattle.bsc_octets.specs.declared.vmac.Vmac.{Vmac}

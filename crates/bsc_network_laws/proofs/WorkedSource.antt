@@ -1,4 +1,5 @@
 -- A delivery of a network that is written out has its source, as the theorem says it.
+-- No clause needs it: worked examples.
 use Rattle.std.proofs.Common.{◌≡◌, inl, ℕ, suc, List, [], ◌∷◌, ◌++◌, refl, arith}
 use Rattle.std.specs.Prelude.{take as take_first, slice_get, unwrap_or, length}
 use Rattle.bsc_history.specs.declared.call.Call.{Call}

@@ -1,4 +1,5 @@
 -- Who is connected to a hub is the node at the other end of its session's link, as it was when that began.
+-- It serves the clauses of `connections_are_as_born` and `hub_deliveries_have_their_nodes`.
 use Rattle.std.proofs.Common.{◌≡◌, ℕ, ◌||◌, true, ◌∷◌, take, Option, Some, refl, ap, sym, subst, ◌∙◌}
 use Rattle.std.specs.Prelude.{slice_get}
 use Rattle.std.proofs.lemmas.Bool.{and_parts}
@@ -28,7 +29,8 @@ use Rattle.bsc_network_of_runs.proofs.Peering.{born, own_now, put_as_born}
 
 -- ---- a connection
 
-module _ (names : ConnectsNameTheirPeer) (others : OthersNameNobody) (as_begun : (a : Made) → ConnectsAreAsBegun a) (stays : (a : Made) → StaysANode a) (given_law : GivenLaw) (connects_law : ConnectsLaw) (N : Network) (other : OtherEnd) (links : AreLinks N other) where
+module _ (names : ConnectsNameTheirPeer) (others : OthersNameNobody) (as_begun : (a : Made) → ConnectsAreAsBegun a) (stays : (a : Made) → StaysANode a) (given_law : GivenLaw)
+    (connects_law : ConnectsLaw) (N : Network) (other : OtherEnd) (links : AreLinks N other) where
   module _ (z : SessionName) (x : SessionIn N z) (c : Connection) (conn : x.session.ended.conn ≡ Some c.number) (found : numbered c.number (joined x.hub.history) ≡ Some c) where
     among : In c (joined x.hub.history)
     among = (found_in c.number (joined x.hub.history) c found).0
@@ -44,13 +46,17 @@ module _ (names : ConnectsNameTheirPeer) (others : OthersNameNobody) (as_begun :
             let asked = who_asked names others stays given_law connects_law N other links z x c conn among in
             let given = was_given names others stays given_law connects_law N other links z x c conn among in
             let same : m ≡ n = same_Some m n (sym at_m ∙ at) in
-            let put : In asked.message.octets (put_over (log_of m) link) = In-left asked.message.octets later (given_in x.session.talk) (put_over (log_of m) link) (sym (ap (λ (v : Traffic). v.put) is) ∙ first) given in
+            let put : In asked.message.octets (put_over (log_of m) link) = In-left asked.message.octets later (given_in x.session.talk) (put_over (log_of m) link)
+            (sym (ap (λ (v : Traffic). v.put) is) ∙ first) given in
             let connects = is_connect_so names others stays asked.message.octets asked.place asked.max asked.msg c.who asked.passed asked.asks in
-            let so = put_as_born as_begun n link asked.message.octets (subst (λ (w : NodeRun). HasBegun (log_of w) link) same begun) (subst (λ (w : NodeRun). In asked.message.octets (put_over (log_of w) link)) same put) connects in
-            one_name asked.msg.body c.who (born n link) asked.asks (names (born n link) asked.message.octets asked.place asked.max asked.msg (stays n.made n.is_node (take link.began (log_of n))) so asked.passed)
+            let so = put_as_born as_begun n link asked.message.octets (subst (λ (w : NodeRun). HasBegun (log_of w) link) same begun)
+            (subst (λ (w : NodeRun). In asked.message.octets (put_over (log_of w) link)) same put) connects in
+            one_name asked.msg.body c.who (born n link) asked.asks (names (born n link) asked.message.octets asked.place asked.max asked.msg
+            (stays n.made n.is_node (take link.began (log_of n))) so asked.passed)
 
 pub connections_are_as_born : ConnectsNameTheirPeer → OthersNameNobody → ((a : Made) → ConnectsAreAsBegun a) → ((a : Made) → StaysANode a) → GivenLaw → ConnectsLaw → ConnectionsAreAsBorn
-connections_are_as_born names others as_begun stays given connects N other links z x c conn found k link n at leads = as_born names others as_begun stays given connects N other links z x c conn found k link n at leads
+connections_are_as_born names others as_begun stays given connects N other links z x c conn found k link n at leads =
+    as_born names others as_begun stays given connects N other links z x c conn found k link n at leads
 
 -- ---- a delivery over a hub
 
@@ -74,7 +80,8 @@ module _ (born_law : ConnectionsAreAsBorn) (one_vmac : (a : Made) → LinksHaveO
     sender_is : p.up.passed.entered.from.who ≡ born p.up.sender p.up.link
     sender_is =
         let entered = p.up.passed.entered in
-        born_law N other links (beside p.z p.up.passed.number) from_session entered.from p.up.passed.sends_as (joined_then entered.from (found_in entered.from.number (live entered.before) entered.from entered.sender_live).0)
+        born_law N other links (beside p.z p.up.passed.number) from_session entered.from p.up.passed.sends_as
+        (joined_then entered.from (found_in entered.from.number (live entered.before) entered.from entered.sender_live).0)
         s.node p.up.link p.up.sender p.up.at_sender p.up.leads
 
     to_is : p.up.passed.entered.to.who ≡ born p.over.receiver p.link

@@ -1,5 +1,7 @@
 -- A link's beginning: in each log in which it is there, and where what it gave and took stands.
-use Rattle.std.proofs.Common.{◌≡◌, ◌⊎◌, inl, inr, ℕ, zero, suc, ◌+◌, ◌≤◌, Bool, true, false, cond, ◌||◌, List, [], ◌∷◌, ◌++◌, length, drop, take, Some, refl, ap, sym, subst, ◌∙◌, arith, append-nil, append_assoc, length-append}
+-- It serves clauses of functions of `laws`.
+use Rattle.std.proofs.Common.{◌≡◌, ◌⊎◌, inl, inr, ℕ, zero, suc, ◌+◌, ◌≤◌, Bool, true, false, cond, ◌||◌, List, [], ◌∷◌, ◌++◌, length, drop, take, Some, refl, ap, sym, subst, ◌∙◌}
+use Rattle.std.proofs.Common.{arith, append-nil, append_assoc, length-append}
 use Rattle.std.specs.Prelude.{flat_map, slice_get}
 use Rattle.std.specs.List.{list_any}
 use Rattle.std.proofs.lemmas.Option.{same_Some}
@@ -64,7 +66,8 @@ until-is L x has =
     let test = begins x.name in
     let line = has.begun.line in
     let first = take x.began L in
-    ap (until test) (cut L x.began line has.begun.at ∙ sym (append_assoc first (line ∷ []) (lines_since L x))) ∙ until_kept test (first ++ line ∷ []) (lines_since L x) has.since ∙ until-begun test first line has.begun.begins_it
+    ap (until test) (cut L x.began line has.begun.at ∙ sym (append_assoc first (line ∷ []) (lines_since L x))) ∙ until_kept test (first ++ line ∷ []) (lines_since L x) has.since
+    ∙ until-begun test first line has.begun.begins_it
 
 -- That is the same in a longer log.
 pub born-same : (L B : Log) (rest : List Line) (x : LinkLife) → L ≡ B ++ rest → HasBegun B x → take x.began L ≡ take x.began B
@@ -104,14 +107,16 @@ given_in_life L B rest x e o split is has =
     let since : lines_since L x ≡ D ++ came e ∷ rest = ap (λ (l : Log). lines_since l x) split ∙ drop-more (x.began + 1) B (came e ∷ rest) (omega arith) in
     let life : life_of L x ≡ D ++ came e ∷ until_anew name rest = ap (until_anew name) since ∙ until-none name D (came e ∷ rest) has.since in
     let here : In o (given_by name (came e)) = subst (In o) (sym (given-here e name o is)) (inl refl) in
-    subst (λ (l : List Line). In o (flat_map (given_by name) l)) (sym life) (In-gives (given_by name) (came e) o (D ++ came e ∷ until_anew name rest) (In-right (came e) D (came e ∷ until_anew name rest) (inl refl)) here)
+    subst (λ (l : List Line). In o (flat_map (given_by name) l)) (sym life)
+    (In-gives (given_by name) (came e) o (D ++ came e ∷ until_anew name rest) (In-right (came e) D (came e ∷ until_anew name rest) (inl refl)) here)
 
 pub named_over : (a : Made) (L P : Log) (rest : List Line) (x : LinkLife) (who : Identity) → L ≡ P ++ rest → HasNow P x → WasNamed a P x.name who → NamedOver a L x who
 named_over a L P rest x who split has w =
     let has_then : HasNow w.before x = has_before w.before (goes_on a w.e w.before ++ w.later) x (subst (λ (l : Log). HasNow l x) w.is has) w.since in
     let lines = follows a w.e.event (with_event w.before w.e) in
     let first : goes_on a w.e w.before ++ w.later ≡ came w.e ∷ (lines ++ w.later) = ap (λ (l : List Line). l ++ w.later) (goes_on-is a w.before w.e) in
-    let whole : L ≡ w.before ++ came w.e ∷ ((lines ++ w.later) ++ rest) = split ∙ ap (λ (l : Log). l ++ rest) (w.is ∙ ap (λ (l : List Line). w.before ++ l) first) ∙ append_assoc w.before (came w.e ∷ (lines ++ w.later)) rest in
+    let whole : L ≡ w.before ++ came w.e ∷ ((lines ++ w.later) ++ rest) = split ∙ ap (λ (l : Log). l ++ rest) (w.is ∙ ap (λ (l : List Line). w.before ++ l) first)
+    ∙ append_assoc w.before (came w.e ∷ (lines ++ w.later)) rest in
     let n = w.named in
     record {
       octets = n.0;
@@ -144,15 +149,20 @@ until-split name (x ∷ xs) b m l h = by (λ c g. until-split name xs c m l g) (
     none [] g = cc
     none (y ∷ c) g = cc
 
-    by : ((c : List Line) → until_anew name xs ≡ c ++ m ∷ l → (more : List Line) × (xs ≡ c ++ m ∷ more) × (list_any (begins name) c ≡ false)) → (d : Bool) → begins name x ≡ d → (c : List Line) → cond d [] (x ∷ until_anew name xs) ≡ c ++ m ∷ l
+    by : ((c : List Line) → until_anew name xs ≡ c ++ m ∷ l → (more : List Line) × (xs ≡ c ++ m ∷ more) × (list_any (begins name) c ≡ false)) → (d : Bool) → begins name x ≡ d
+        → (c : List Line) → cond d [] (x ∷ until_anew name xs) ≡ c ++ m ∷ l
         → (more : List Line) × (x ∷ xs ≡ c ++ m ∷ more) × (list_any (begins name) c ≡ false)
     by rec true is c g = absurd (none c g)
     by rec false is [] g = (let same : x ≡ m = cc in (xs, ap (λ (z : Line). z ∷ xs) same, refl))
     by rec false is (y ∷ c) g =
         let same : x ≡ y = cc in
         let rest : until_anew name xs ≡ c ++ m ∷ l = cc in
-        let r = rec c rest in
-        (r.0, ap (λ (z : List Line). x ∷ z) r.1 ∙ ap (λ (z : Line). z ∷ (c ++ m ∷ r.0)) same, ap (λ (z : Line). begins name z || list_any (begins name) c) (sym same) ∙ ap (λ (d : Bool). d || list_any (begins name) c) is ∙ r.2)
+        let r = rec c rest in (
+          r.0,
+          ap (λ (z : List Line). x ∷ z) r.1 ∙ ap (λ (z : Line). z ∷ (c ++ m ∷ r.0)) same,
+          ap (λ (z : Line). begins name z || list_any (begins name) c) (sym same)
+              ∙ ap (λ (d : Bool). d || list_any (begins name) c) is ∙ r.2,
+        )
 
 pub put_at : (L : Log) (y : LinkLife) (o : List ℕ) → HasBegun L y → In o (put_over L y) → PutAt L y o
 put_at L y o begun h =
@@ -166,7 +176,8 @@ put_at L y o begun h =
     let length_is : length first ≡ y.began = length-taken y.began L (omega arith) in
     let line : did (Put p.0 o) ≡ did (Put name o) = ap (λ (n : LinkName). did (Put n o)) p.2 in
     let whole : L ≡ (first ++ begun.line ∷ split.0) ++ did (Put name o) ∷ u.0 =
-    cut L y.began begun.line begun.at ∙ ap (λ (l : List Line). first ++ begun.line ∷ l) (u.1 ∙ ap (λ (m : Line). split.0 ++ m ∷ u.0) (p.1 ∙ line)) ∙ sym (append_assoc first (begun.line ∷ split.0) (did (Put name o) ∷ u.0)) in
+    cut L y.began begun.line begun.at ∙ ap (λ (l : List Line). first ++ begun.line ∷ l) (u.1 ∙ ap (λ (m : Line). split.0 ++ m ∷ u.0) (p.1 ∙ line))
+    ∙ sym (append_assoc first (begun.line ∷ split.0) (did (Put name o) ∷ u.0)) in
     let at : slice_get (first ++ begun.line ∷ split.0) y.began ≡ Some begun.line = ap (slice_get (first ++ begun.line ∷ split.0)) (sym length_is) ∙ got-split first begun.line split.0 in
     let one_more : length (first ++ begun.line ∷ []) ≡ length first + 1 = length-append first (begun.line ∷ []) in
     let behind : lines_since (first ++ begun.line ∷ split.0) y ≡ split.0 =

@@ -1,4 +1,5 @@
 -- What a session puts was put by a node for a Send, and for no other that the session puts.
+-- It serves clauses of functions of `laws`.
 use Rattle.std.proofs.Common.{◌≡◌, ℕ, true, List, ◌++◌, length, take, Option, Some, None, refl, ap, sym, subst, ◌∙◌}
 use Rattle.std.specs.Prelude.{slice_get}
 use Rattle.std.proofs.lemmas.List.Elements.{filter-append}
@@ -59,7 +60,8 @@ module _ (pass_on : (h : HubRun) → PassesOn h) (puts : (n : NodeRun) → PutsW
       },
     )
 
-    by_node : (k : ℕ) (link : LinkLife) → other (of_session (beside z p.number)) ≡ Some (of_node k link) → (u : Traffic) → HasTraffic N (of_node k link) u → (later : List (List ℕ)) → u.put ≡ given ++ later
+    by_node : (k : ℕ) (link : LinkLife) → other (of_session (beside z p.number)) ≡ Some (of_node k link) → (u : Traffic) → HasTraffic N (of_node k link) u → (later : List (List ℕ))
+        → u.put ≡ given ++ later
         → (s : Sending) × CameUp N other z n o s
     by_node k link leads u (sender, at, begun, is) later first =
         let put : npdus (put_over (log_of sender) link) ≡ npdus given ++ npdus later = ap npdus (sym (ap (λ (v : Traffic). v.put) is) ∙ first) ∙ filter-append is_npdu given later in
@@ -114,7 +116,8 @@ same_put a L x y r q s t o p c d same =
     let event : c.e ≡ d.e = same_event a L s.place t.place c.e d.e c.comes d.comes same in
     let sends : Send s.dest s.npdu ≡ Send t.dest t.npdu = sym c.sends ∙ ap (λ (e : TimedEvent). e.event) event ∙ d.sends in
     let dest : s.dest ≡ t.dest = cc in
-    let path : c.path ≡ d.path = same_Some c.path d.path (sym c.by_path ∙ ap (λ (v : Vmac). way v (with_event c.comes.before c.e)) dest ∙ ap (λ (G : Log). way t.dest (with_event G c.e)) before ∙ ap (λ (e : TimedEvent). way t.dest (with_event d.comes.before e)) event ∙ d.by_path) in
+    let path : c.path ≡ d.path = same_Some c.path d.path (sym c.by_path ∙ ap (λ (v : Vmac). way v (with_event c.comes.before c.e)) dest
+    ∙ ap (λ (G : Log). way t.dest (with_event G c.e)) before ∙ ap (λ (e : TimedEvent). way t.dest (with_event d.comes.before e)) event ∙ d.by_path) in
     let name : x.name ≡ y.name = sym c.link ∙ ap (λ (w : Way). w.link) path ∙ d.link in
     let life : x ≡ y = same_life x y name (one_beginning d.comes.before x y name (subst (λ (G : Log). HasNow G x) before c.has) d.has) in
     (life, c.nth ∙ ap (λ (G : Log). length (npdus (put_over G x))) before ∙ ap (λ (z : LinkLife). length (npdus (put_over d.comes.before z))) life ∙ sym d.nth)
@@ -175,7 +178,8 @@ sessions_put_once once N other links z n m o k s t p q node place =
     let nodes : p.sender ≡ q.sender = same_Some p.sender q.sender (sym p.at_sender ∙ ap (λ (i : ℕ). slice_get N.nodes i) node ∙ q.at_sender) in
     let r = length (npdus (take p.passed.index (given_in p.passed.sender.talk))) in
     let sent : SendsAt q.sender.made (log_of q.sender) p.link r s p.passed.entered.message = subst (λ (w : NodeRun). SendsAt w.made (log_of w) p.link r s p.passed.entered.message) nodes p.sent in
-    let same = same_put q.sender.made (log_of q.sender) p.link q.link r (length (npdus (take q.passed.index (given_in q.passed.sender.talk)))) s t p.passed.entered.message q.passed.entered.message sent q.sent place in
+    let same = same_put q.sender.made (log_of q.sender) p.link q.link r (length
+    (npdus (take q.passed.index (given_in q.passed.sender.talk)))) s t p.passed.entered.message q.passed.entered.message sent q.sent place in
     let to_p = links.both (of_session (beside z p.passed.number)) (of_node s.node p.link) p.leads in
     let to_q = links.both (of_session (beside z q.passed.number)) (of_node t.node q.link) q.leads in
     let ends : of_session (beside z p.passed.number) ≡ of_session (beside z q.passed.number) =
@@ -184,5 +188,11 @@ sessions_put_once once N other links z n m o k s t p q node place =
     let hub : p.put_by.hub ≡ q.put_by.hub = same_Some p.put_by.hub q.put_by.hub (sym p.put_by.at_hub ∙ q.put_by.at_hub) in
     of_hub once N z p.put_by.hub q.put_by.hub n m
     (record { session = p.put_by.session; at_session = p.put_by.at_session; octets = o; passed = p.passed; is = own-npdu p.sender.made (log_of p.sender) p.link r s p.passed.entered.message p.sent })
-    (record { session = q.put_by.session; at_session = q.put_by.at_session; octets = k; passed = q.passed; is = own-npdu q.sender.made (log_of q.sender) q.link (length (npdus (take q.passed.index (given_in q.passed.sender.talk)))) t q.passed.entered.message q.sent })
+    (record {
+      session = q.put_by.session;
+      at_session = q.put_by.at_session;
+      octets = k;
+      passed = q.passed;
+      is = own-npdu q.sender.made (log_of q.sender) q.link (length (npdus (take q.passed.index (given_in q.passed.sender.talk)))) t q.passed.entered.message q.sent;
+    })
     hub (ap session_number ends) same.1

@@ -1,4 +1,5 @@
 -- What is delivered of what came over a link to a hub came from a Send.
+-- It serves the clauses of `direct_deliveries_were_sent`, `hub_deliveries_were_sent` and `runs_deliver_only_what_was_sent`.
 use Rattle.std.proofs.Common.{◌≡◌, ◌⊎◌, inl, inr, ℕ, ◌+◌, suc, Bool, true, false, ◌||◌, List, [], ◌∷◌, length, drop, Option, Some, refl, ap, sym, subst, ◌∙◌, arith}
 use Rattle.std.specs.Prelude.{IsTrue, not, slice_get}
 use Rattle.std.specs.List.{list_any}
@@ -48,7 +49,8 @@ pub newest : (name : LinkName) (L : Log) → list_any (begins name) L ≡ true �
 newest name [] h = cc
 newest name (m ∷ L) h = by (λ g. newest name L g) (list_any (begins name) L) refl
   where
-    by : (list_any (begins name) L ≡ true → (i : ℕ) × HasNow L (record { name = name; began = i })) → (b : Bool) → list_any (begins name) L ≡ b → (i : ℕ) × HasNow (m ∷ L) (record { name = name; began = i })
+    by : (list_any (begins name) L ≡ true → (i : ℕ) × HasNow L (record { name = name; began = i })) → (b : Bool) → list_any (begins name) L ≡ b → (i : ℕ)
+        × HasNow (m ∷ L) (record { name = name; began = i })
     by rec true later =
         let r = rec later in
         let next : suc r.0 + 1 ≡ suc (r.0 + 1) = omega arith in (
@@ -73,8 +75,10 @@ hub_dest : (L : Log) (v : Vmac) (name : LinkName) (dest : Option Vmac) → is_hu
 hub_dest L v (Hub s) dest to_hub leads = leads
 hub_dest L v (Direct k) dest to_hub leads = cc
 
-module _ (ways : WaysLeadThere) (stays : (a : Made) → StaysANode a) (connections : ConnectionsAreOfNodes) (heard : HubLinksGiveWhatWasSent) (N : Network) (other : OtherEnd) (links : AreLinks N other) (d : Delivery) (n : NodeRun) (at : slice_get N.nodes d.node ≡ Some n) where
-  of_heard : (x : DeliversAt n d.place d.delivered) (link : LinkLife) (place : ℕ) (once : IsDeliveredOnce n.made x.comes.before x.e) → (hears : HearsAt n link place d.place once.1) → once.0 ≡ link.name → is_hub link.name ≡ true → d.delivered ≡ delivery once.2 once.3 once.4
+module _ (ways : WaysLeadThere) (stays : (a : Made) → StaysANode a) (connections : ConnectionsAreOfNodes) (heard : HubLinksGiveWhatWasSent) (N : Network) (other : OtherEnd)
+    (links : AreLinks N other) (d : Delivery) (n : NodeRun) (at : slice_get N.nodes d.node ≡ Some n) where
+  of_heard : (x : DeliversAt n d.place d.delivered) (link : LinkLife) (place : ℕ) (once : IsDeliveredOnce n.made x.comes.before x.e) → (hears : HearsAt n link place d.place once.1)
+      → once.0 ≡ link.name → is_hub link.name ≡ true → d.delivered ≡ delivery once.2 once.3 once.4
       → HeardFrom N other d.node link place once.1 → (s : Sending) × CameByHub N other d s
   of_heard x link place once hears name to_hub delivered f =
       let u = f.up in
@@ -90,7 +94,8 @@ module _ (ways : WaysLeadThere) (stays : (a : Made) → StaysANode a) (connectio
       let octets : once.1 ≡ out (message_octets (next_id L) (Some s.dest) (Npdu s.npdu)) v = entered.octets ∙ ap (λ (m : List ℕ). out m v) message in
       let six_dest : length s.dest.0 ≡ 6 = subst IsWhole sent.sends (u.sender.whole s.place sent.e sent.comes) in
       let G = entered.before in
-      let among : In entered.from (joined u.put_by.hub.history) = subst (In entered.from) (ap joined (sym entered.is)) (subst (In entered.from) (sym (joined-append G (entered.forward ∷ entered.later)))
+      let among : In entered.from (joined u.put_by.hub.history) = subst (In entered.from) (ap joined (sym entered.is))
+      (subst (In entered.from) (sym (joined-append G (entered.forward ∷ entered.later)))
       (In-left entered.from (joined G) (joined (entered.forward ∷ entered.later)) (joined_in _ G entered.from (found_in entered.from.number (live G) entered.from entered.sender_live).0))) in
       let one : numbered entered.from.number (joined u.put_by.hub.history) ≡ Some entered.from =
       numbered_so entered.from (joined u.put_by.hub.history) (joined_apart u.put_by.hub.about u.put_by.hub.history u.put_by.hub.legal) among in
@@ -114,11 +119,13 @@ module _ (ways : WaysLeadThere) (stays : (a : Made) → StaysANode a) (connectio
           up = u;
           npdu = sym it.npdu_is;
           address = sym it.from_is;
-          meant = subst (λ (b : Bool). IsFor b s.dest entered.to.who.vmac) (sym it.for_all) (is_for entered.message entered.from.number (next_id L) s.dest s.npdu entered.to message six_dest entered.meant);
+          meant = subst (λ (b : Bool). IsFor b s.dest entered.to.who.vmac) (sym it.for_all)
+              (is_for entered.message entered.from.number (next_id L) s.dest s.npdu entered.to message six_dest entered.meant);
         },
       )
 
-  of_once : (x : DeliversAt n d.place d.delivered) (name : LinkName) (o : List ℕ) → x.e.event ≡ Came name o → is_hub name ≡ true → IsDeliveredOnce n.made x.comes.before x.e → (s : Sending) × CameByHub N other d s
+  of_once : (x : DeliversAt n d.place d.delivered) (name : LinkName) (o : List ℕ) → x.e.event ≡ Came name o → is_hub name ≡ true → IsDeliveredOnce n.made x.comes.before x.e → (s : Sending)
+      × CameByHub N other d s
   of_once x name o event to_hub once =
       let came : Came name o ≡ Came once.0 once.1 = sym event ∙ once.5 in
       let names : name ≡ once.0 = cc in
@@ -135,9 +142,11 @@ module _ (ways : WaysLeadThere) (stays : (a : Made) → StaysANode a) (connectio
   none_delivered : (x : DeliversAt n d.place d.delivered) → delivered_at n.made x.comes.before x.e ≡ [] → ⊥
   none_delivered x h = (let both : Deliver d.delivered ∷ [] ≡ [] = sym x.delivers ∙ h in cc)
 
-  by_law : (x : DeliversAt n d.place d.delivered) (name : LinkName) (o : List ℕ) → x.e.event ≡ Came name o → is_hub name ≡ true → (delivered_at n.made x.comes.before x.e ≡ []) ⊎ IsDeliveredOnce n.made x.comes.before x.e → (s : Sending) × CameByHub N other d s
+  by_law : (x : DeliversAt n d.place d.delivered) (name : LinkName) (o : List ℕ) → x.e.event ≡ Came name o → is_hub name ≡ true → (delivered_at n.made x.comes.before x.e ≡ [])
+      ⊎ IsDeliveredOnce n.made x.comes.before x.e → (s : Sending) × CameByHub N other d s
   by_law x name o event to_hub (inl none) = absurd (none_delivered x none)
   by_law x name o event to_hub (inr once) = of_once x name o event to_hub once
 
 pub hub_deliveries_were_sent : ((a : Made) → DeliversWhatCame a) → WaysLeadThere → ((a : Made) → StaysANode a) → ConnectionsAreOfNodes → HubLinksGiveWhatWasSent → HubDeliveriesWereSent
-hub_deliveries_were_sent delivers ways stays connections heard N other links d n at x name o event to_hub = by_law ways stays connections heard N other links d n at x name o event to_hub (delivers n.made x.comes.before x.e x.comes.may)
+hub_deliveries_were_sent delivers ways stays connections heard N other links d n at x name o event to_hub =
+    by_law ways stays connections heard N other links d n at x name o event to_hub (delivers n.made x.comes.before x.e x.comes.may)

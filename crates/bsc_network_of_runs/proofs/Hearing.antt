@@ -1,4 +1,5 @@
 -- What a node hears over a link to a hub is what the session at the other end put.
+-- It serves clauses of functions of `laws`.
 use Rattle.std.proofs.Common.{◌≡◌, ℕ, ◌+◌, Bool, true, false, cond, List, [], ◌∷◌, ◌++◌, length, Option, Some, None, refl, ap, sym, ◌∙◌, arith}
 use Rattle.std.specs.Prelude.{flat_map, slice_get}
 use Rattle.std.proofs.lemmas.Grind.{flat_map-append}
@@ -60,15 +61,18 @@ pub heard-at : (a : Made) (L : Log) (x : LinkLife) (place : ℕ) (e : TimedEvent
     → slice_get (npdus (given_over L x)) (length (npdus (given_over c.before x))) ≡ Some o
 heard-at a L x place e o c is has npdu = heard-in L c.before (follows a e.event (with_event c.before e) ++ c.later) x e o (from_event a L place e c) is has npdu
 
-module _ (law : SessionsPutWhatWasSent) (N : Network) (other : OtherEnd) (links : AreLinks N other) (k : ℕ) (node : NodeRun) (link : LinkLife) (n : ℕ) (o : List ℕ) (at : slice_get N.nodes k ≡ Some node) (to_hub : is_hub link.name ≡ true) where
+module _ (law : SessionsPutWhatWasSent) (N : Network) (other : OtherEnd) (links : AreLinks N other) (k : ℕ) (node : NodeRun) (link : LinkLife) (n : ℕ) (o : List ℕ)
+    (at : slice_get N.nodes k ≡ Some node) (to_hub : is_hub link.name ≡ true) where
   abbrev t : Traffic
   t = record { given = given_over (log_of node) link; put = put_over (log_of node) link }
 
-  by_session : (z : SessionName) → other (of_node k link) ≡ Some (of_session z) → (u : Traffic) → HasTraffic N (of_session z) u → (later : List (List ℕ)) → u.put ≡ given_over (log_of node) link ++ later
+  by_session : (z : SessionName) → other (of_node k link) ≡ Some (of_session z) → (u : Traffic) → HasTraffic N (of_session z) u → (later : List (List ℕ))
+      → u.put ≡ given_over (log_of node) link ++ later
       → slice_get (npdus (given_over (log_of node) link)) n ≡ Some o → HeardFrom N other k link n o
   by_session z leads u (h, s, at_hub, at_session, is) later first got =
       let x : SessionIn N z = record { hub = h; at_hub = at_hub; session = s; at_session = at_session } in
-      let put : npdus (put_in s.talk) ≡ npdus (given_over (log_of node) link) ++ npdus later = ap npdus (sym (ap (λ (v : Traffic). v.put) is) ∙ first) ∙ filter-append is_npdu (given_over (log_of node) link) later in
+      let put : npdus (put_in s.talk) ≡ npdus (given_over (log_of node) link) ++ npdus later = ap npdus (sym (ap (λ (v : Traffic). v.put) is) ∙ first)
+      ∙ filter-append is_npdu (given_over (log_of node) link) later in
       let r = law N other links z n o x (ap (λ (l : List (List ℕ)). slice_get l n) put ∙ got-left (npdus (given_over (log_of node) link)) (npdus later) n o got) in
       record { z = z; leads = leads; sending = r.0; up = r.1 }
 

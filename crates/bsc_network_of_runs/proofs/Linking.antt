@@ -85,7 +85,8 @@ along p (w ∷ wires) x y all h = by (λ more g. along p wires x y more g) (same
     second rec true is g = subst (λ (e : LinkEnd). p e y ≡ true) (sym (end_is x w.two is)) (subst (λ (e : LinkEnd). p w.two e ≡ true) (same_Some w.one y g) more.0)
     second rec false is g = rec more.1 g
 
-    by : (of_both p wires ≡ true → other_by wires x ≡ Some y → p x y ≡ true) → (b : Bool) → same_end x w.one ≡ b → cond b (Some w.two) (cond (same_end x w.two) (Some w.one) (other_by wires x)) ≡ Some y → p x y ≡ true
+    by : (of_both p wires ≡ true → other_by wires x ≡ Some y → p x y ≡ true) → (b : Bool) → same_end x w.one ≡ b
+        → cond b (Some w.two) (cond (same_end x w.two) (Some w.one) (other_by wires x)) ≡ Some y → p x y ≡ true
     by rec true is g = subst (λ (e : LinkEnd). p e y ≡ true) (sym (end_is x w.one is)) (subst (λ (e : LinkEnd). p w.one e ≡ true) (same_Some w.two y g) parts.0)
     by rec false is g = second rec (same_end x w.two) refl g
 

@@ -1,4 +1,5 @@
 -- Elements at an index: of a part of a list, and of what a list gives.
+-- It serves clauses of functions of `laws`.
 use Rattle.std.proofs.Common.{◌≡◌, ◌⊎◌, inl, inr, ℕ, zero, suc, Bool, true, false, cond, List, [], ◌∷◌, ◌++◌, length, filter, take, Some, refl, ap, sym, subst, ◌∙◌, arith, length-append}
 use Rattle.std.specs.Prelude.{flat_map, map, slice_get}
 use Rattle.std.proofs.lemmas.Option.{same_Some}
@@ -108,7 +109,8 @@ got-given {A} {B} f one (x ∷ xs) n y h = by (λ m g. got-given f one xs m y g)
     first rec z is (suc m) g = (let r = rec m g in on m (suc m) r (ap (λ (l : List B). length (l ++ flat_map f (take r.index xs))) is ∙ ap suc r.before))
 
     by : ((m : ℕ) → slice_get (flat_map f xs) m ≡ Some y → Given f xs m y) → (f x ≡ []) ⊎ ((z : B) × (f x ≡ z ∷ [])) → Given f (x ∷ xs) n y
-    by rec (inl none) = (let r = rec n (subst (λ (l : List B). slice_get (l ++ flat_map f xs) n ≡ Some y) none h) in on n n r (ap (λ (l : List B). length (l ++ flat_map f (take r.index xs))) none ∙ r.before))
+    by rec (inl none) = (let r = rec n (subst (λ (l : List B). slice_get (l ++ flat_map f xs) n ≡ Some y) none h) in
+        on n n r (ap (λ (l : List B). length (l ++ flat_map f (take r.index xs))) none ∙ r.before))
     by rec (inr (z, is)) = first rec z is n (subst (λ (l : List B). slice_get (l ++ flat_map f xs) n ≡ Some y) is h)
 
 -- Where a list splits twice at an element that gives one, with as many given before, it splits at one place.

@@ -1,4 +1,5 @@
 -- The links of a node, and the log with more lines.
+-- It serves clauses of functions of `laws`.
 use Rattle.std.proofs.Common.{◌≡◌, ◌⊎◌, inl, inr, ℕ, zero, suc, ◌+◌, ◌<◌, Bool, true, false, ◌||◌, List, [], ◌∷◌, ◌++◌, length, drop, Some, refl, ap, sym, ◌∙◌, arith}
 use Rattle.std.specs.Prelude.{slice_get}
 use Rattle.std.specs.List.{list_any}
@@ -45,7 +46,8 @@ got-drop (suc n) (a ∷ xs) (suc k) i x h is = got-drop n xs k i x h (omega arit
 not_before : (L : Log) (x y : LinkLife) → x.name ≡ y.name → HasNow L x → HasBegun L y → x.began < y.began → ⊥
 not_before L x y same now has less =
     let gap = lesser x.began y.began less in
-    none-later (begins x.name) (lines_since L x) gap.0 has.line now.since (got-drop (x.began + 1) L y.began gap.0 has.line has.at gap.1) (ap (λ (name : LinkName). begins name has.line) same ∙ has.begins_it)
+    none-later (begins x.name) (lines_since L x) gap.0 has.line now.since (got-drop (x.began + 1) L y.began gap.0 has.line has.at gap.1)
+    (ap (λ (name : LinkName). begins name has.line) same ∙ has.begins_it)
   where
     lesser : (i j : ℕ) → i < j → (k : ℕ) × (j ≡ (i + 1) + k)
     lesser zero zero h = absurd (omega arith)

@@ -1,4 +1,5 @@
 -- Who is connected to a hub is the node at the other end of its session's link.
+-- It serves clauses of functions of `laws`.
 use Rattle.std.proofs.Common.{◌≡◌, ◌⊎◌, inl, inr, ℕ, ◌+◌, zero, suc, Bool, true, false, cond, List, [], ◌∷◌, ◌++◌, drop, Option, Some, None, refl, ap, sym, subst, ◌∙◌, append-nil}
 use Rattle.std.specs.Prelude.{IsTrue, slice_get}
 use Rattle.std.proofs.lemmas.Option.{same_Some}
@@ -139,7 +140,8 @@ module _ (names : ConnectsNameTheirPeer) (others : OthersNameNobody) (stays : (a
       by false is = absurd (no_name msg.body who asks (others o place max msg is passed))
 
   -- what a node put by which somebody asks, names that node
-  put_by_node : (k : ℕ) (N : Network) (c : Connection) (n : NodeRun) (at : slice_get N.nodes k ≡ Some n) (x : LinkLife) (o : List ℕ) → In o (put_over (log_of n) x) → (place : Place) (max : ℕ) (msg : Message)
+  put_by_node : (k : ℕ) (N : Network) (c : Connection) (n : NodeRun) (at : slice_get N.nodes k ≡ Some n) (x : LinkLife) (o : List ℕ) → In o (put_over (log_of n) x)
+      → (place : Place) (max : ℕ) (msg : Message)
       → outcome_of o place max ≡ Pass msg → who_asks msg.body ≡ Some c.who → IsOfNode N k c
   put_by_node k N c n at x o h place max msg passed asks =
       let a = n.made in
@@ -164,7 +166,8 @@ In-left o later os ps is h = subst (In o) (sym is) (left os h)
 abbrev pub ConnectsLaw : Type 0
 ConnectsLaw = (v : Terms) (T : List Said) (R : List ℕ) (E : List Entry) (frames : List (List ℕ)) (ended : Ended) → (x : Session v T R E frames ended) → ConnectsAreAsked v E x.course
 
-module _ (names : ConnectsNameTheirPeer) (others : OthersNameNobody) (stays : (a : Made) → StaysANode a) (given_law : GivenLaw) (connects_law : ConnectsLaw) (N : Network) (other : OtherEnd) (links : AreLinks N other) (z : SessionName) (x : SessionIn N z) (c : Connection)
+module _ (names : ConnectsNameTheirPeer) (others : OthersNameNobody) (stays : (a : Made) → StaysANode a) (given_law : GivenLaw) (connects_law : ConnectsLaw) (N : Network) (other : OtherEnd)
+    (links : AreLinks N other) (z : SessionName) (x : SessionIn N z) (c : Connection)
     (conn : x.session.ended.conn ≡ Some c.number) (among : In c (joined x.hub.history)) where
   pub who_asked : AskedBy (messages_of x.session.session.course) c.who
   who_asked =

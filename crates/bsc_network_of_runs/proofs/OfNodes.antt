@@ -1,4 +1,5 @@
 -- A run of a node is one of a node of a network.
+-- It serves the clauses of `runs_are_of_nodes` and `stopped_runs_are_of_nodes`.
 use Rattle.std.proofs.Common.{List, [], ◌∷◌, ◌++◌, Option, None, refl, sym, subst}
 use Rattle.bsc_edge.specs.declared.said.Said.{Said}
 use Rattle.bsc_node.specs.declared.node_event.NodeEvent.{NodeEvent}

@@ -1,4 +1,5 @@
 -- No two deliveries of one node that came over hubs are of one Send.
+-- It serves the clauses of `direct_deliveries_were_sent`, `hub_deliveries_are_apart` and `runs_deliver_only_what_was_sent`.
 use Rattle.std.proofs.Common.{◌≡◌, ◌≢◌, ◌⊎◌, inl, inr, ℕ, ◌<◌, zero, suc, true, List, [], ◌∷◌, ◌++◌, length, take, Option, Some, refl, ap, sym, subst, ◌∙◌, arith}
 use Rattle.std.specs.Prelude.{slice_get}
 use Rattle.std.proofs.lemmas.Option.{same_Some}
@@ -85,7 +86,8 @@ record PutAt (N : Network) (h : HubRun) (k number n : ℕ) (o : List ℕ) : Type
   of_node_k : IsOfNode N k passed.entered.to
 
 in_joined : (h : HubRun) (before later : List Entry) (c : Connection) → h.history ≡ before ++ later → In c (live before) → In c (joined h.history)
-in_joined h before later c is live_then = subst (λ (l : List Entry). In c (joined l)) (sym is) (subst (In c) (sym (joined-append before later)) (In-left c (joined before) (joined later) (joined_in _ before c live_then)))
+in_joined h before later c is live_then = subst (λ (l : List Entry). In c (joined l)) (sym is)
+    (subst (In c) (sym (joined-append before later)) (In-left c (joined before) (joined later) (joined_in _ before c live_then)))
 
 module _ (connections : ConnectionsAreOfNodes) (N : Network) (other : OtherEnd) (links : AreLinks N other) where
   put_at_hub : (d : Delivery) (s : Sending) (p : CameByHub N other d s) → PutAt N p.up.put_by.hub d.node p.z.number p.n p.octets
@@ -117,28 +119,35 @@ one_device N k j c d same x y =
     device_of N k c x ∙ ap (λ (n : NodeRun). n.made.own.device) node ∙ sym (device_of N j d y)
 
 -- two that came of one index of one session were put by one session
-same_session : (one : (a : About) (H : List Entry) → Legal a H → OneOfDevice H) (N : Network) (h : HubRun) (k j number index n m : ℕ) (o p : List ℕ) (x : PutAt N h k number n o) (y : PutAt N h j index m p) → k ≡ j → x.passed.number ≡ y.passed.number
+same_session : (one : (a : About) (H : List Entry) → Legal a H → OneOfDevice H) (N : Network) (h : HubRun) (k j number index n m : ℕ) (o p : List ℕ) (x : PutAt N h k number n o)
+    (y : PutAt N h j index m p) → k ≡ j → x.passed.number ≡ y.passed.number
     → length (npdus (take x.passed.index (given_in x.passed.sender.talk))) ≡ length (npdus (take y.passed.index (given_in y.passed.sender.talk))) → number ≡ index
 same_session one N h k j number index n m o p x y node same_number as_many =
     let S = SessionOf h.about h.history in
     let sender : x.passed.sender ≡ y.passed.sender = same_Some x.passed.sender y.passed.sender (sym x.passed.found ∙ ap (λ (i : ℕ). slice_get h.sessions i) same_number ∙ y.passed.found) in
-    let given_x : slice_get (given_in y.passed.sender.talk) x.passed.index ≡ Some x.passed.entered.message = subst (λ (t : S). slice_get (given_in t.talk) x.passed.index ≡ Some x.passed.entered.message) sender x.passed.given in
+    let given_x : slice_get (given_in y.passed.sender.talk) x.passed.index ≡ Some x.passed.entered.message =
+    subst (λ (t : S). slice_get (given_in t.talk) x.passed.index ≡ Some x.passed.entered.message) sender x.passed.given in
     let many : length (npdus (take x.passed.index (given_in y.passed.sender.talk))) ≡ length (npdus (take y.passed.index (given_in y.passed.sender.talk))) =
     ap (λ (t : S). length (npdus (take x.passed.index (given_in t.talk)))) (sym sender) ∙ as_many in
-    let at : x.passed.index ≡ y.passed.index = same-kept is_npdu (given_in y.passed.sender.talk) x.passed.index y.passed.index x.passed.entered.message y.passed.entered.message given_x x.npdu y.passed.given y.npdu many in
+    let at : x.passed.index ≡ y.passed.index =
+    same-kept is_npdu (given_in y.passed.sender.talk) x.passed.index y.passed.index x.passed.entered.message y.passed.entered.message given_x x.npdu y.passed.given y.npdu many in
     let before : x.passed.entered.before ≡ y.passed.entered.before = one_forward h x.session y.session n m o p x.passed y.passed same_number at in
     let to_x : In x.passed.entered.to (live x.passed.entered.before) = (found_in x.passed.conn (live x.passed.entered.before) x.passed.entered.to x.passed.entered.receiver_live).0 in
     let to_y : In y.passed.entered.to (live y.passed.entered.before) = (found_in y.passed.conn (live y.passed.entered.before) y.passed.entered.to y.passed.entered.receiver_live).0 in
-    let legal : Legal h.about y.passed.entered.before = Legal-first h.about y.passed.entered.before (y.passed.entered.forward ∷ y.passed.entered.later) (subst (Legal h.about) y.passed.entered.is h.legal) in
-    let to : x.passed.entered.to ≡ y.passed.entered.to = same_one (λ (c : Connection). c.who.device) x.passed.entered.to y.passed.entered.to (live y.passed.entered.before) (one h.about y.passed.entered.before legal) (subst (λ (G : List Entry). In x.passed.entered.to (live G)) before to_x) to_y
+    let legal : Legal h.about y.passed.entered.before = Legal-first h.about y.passed.entered.before (y.passed.entered.forward ∷ y.passed.entered.later)
+    (subst (Legal h.about) y.passed.entered.is h.legal) in
+    let to : x.passed.entered.to ≡ y.passed.entered.to = same_one (λ (c : Connection). c.who.device) x.passed.entered.to y.passed.entered.to (live y.passed.entered.before)
+    (one h.about y.passed.entered.before legal) (subst (λ (G : List Entry). In x.passed.entered.to (live G)) before to_x) to_y
     (one_device N k j x.passed.entered.to y.passed.entered.to node x.of_node_k y.of_node_k) in
     one_index (λ (t : S). t.terms.caller) h.sessions number index x.session y.session h.apart x.at_session y.at_session (sym x.joined_by ∙ ap (λ (c : Connection). c.caller) to ∙ y.joined_by)
 
 npdu_of : (N : Network) (other : OtherEnd) (d : Delivery) (s : Sending) (p : CameByHub N other d s) → is_npdu p.octets ≡ true
 npdu_of N other d s p =
-    ap is_npdu p.up.passed.entered.octets ∙ out-npdu p.up.passed.entered.message p.up.passed.entered.from.who.vmac ∙ own-npdu p.up.sender.made (log_of p.up.sender) p.up.link _ s p.up.passed.entered.message p.up.sent
+    ap is_npdu p.up.passed.entered.octets ∙ out-npdu p.up.passed.entered.message p.up.passed.entered.from.who.vmac
+    ∙ own-npdu p.up.sender.made (log_of p.up.sender) p.up.link _ s p.up.passed.entered.message p.up.sent
 
-of_hub : (one : (a : About) (H : List Entry) → Legal a H → OneOfDevice H) (N : Network) (h g : HubRun) (k j number index n m : ℕ) (o p : List ℕ) (x : PutAt N h k number n o) (y : PutAt N g j index m p) → h ≡ g → k ≡ j → x.passed.number ≡ y.passed.number
+of_hub : (one : (a : About) (H : List Entry) → Legal a H → OneOfDevice H) (N : Network) (h g : HubRun) (k j number index n m : ℕ) (o p : List ℕ) (x : PutAt N h k number n o)
+    (y : PutAt N g j index m p) → h ≡ g → k ≡ j → x.passed.number ≡ y.passed.number
     → length (npdus (take x.passed.index (given_in x.passed.sender.talk))) ≡ length (npdus (take y.passed.index (given_in y.passed.sender.talk))) → number ≡ index
 of_hub one N h g k j number index n m o p x y same = (subst One same (λ w. same_session one N h k j number index n m o p x w)) y
   where
@@ -162,7 +171,8 @@ hub_deliveries_are_apart one connections once N other links d e s t p q node sen
     let nodes : u.sender ≡ v.sender = same_Some u.sender v.sender (sym u.at_sender ∙ ap (λ (i : ℕ). slice_get N.nodes i) sender ∙ v.at_sender) in
     let r = length (npdus (take u.passed.index (given_in u.passed.sender.talk))) in
     let sent : SendsAt v.sender.made (log_of v.sender) u.link r s u.passed.entered.message = subst (λ (w : NodeRun). SendsAt w.made (log_of w) u.link r s u.passed.entered.message) nodes u.sent in
-    let put = same_put v.sender.made (log_of v.sender) u.link v.link r (length (npdus (take v.passed.index (given_in v.passed.sender.talk)))) s t u.passed.entered.message v.passed.entered.message sent v.sent place in
+    let put = same_put v.sender.made (log_of v.sender) u.link v.link r (length
+    (npdus (take v.passed.index (given_in v.passed.sender.talk)))) s t u.passed.entered.message v.passed.entered.message sent v.sent place in
     let to_p = links.both (of_session (beside p.z u.passed.number)) (of_node s.node u.link) u.leads in
     let to_q = links.both (of_session (beside q.z v.passed.number)) (of_node t.node v.link) v.leads in
     let ends : of_session (beside p.z u.passed.number) ≡ of_session (beside q.z v.passed.number) =
@@ -172,7 +182,8 @@ hub_deliveries_are_apart one connections once N other links d e s t p q node sen
     let at_hub : p.z.hub ≡ q.z.hub = ap (λ (z : SessionName). z.hub) names in
     let number : u.passed.number ≡ v.passed.number = ap (λ (z : SessionName). z.number) names in
     let hub : u.put_by.hub ≡ v.put_by.hub = same_Some u.put_by.hub v.put_by.hub (sym u.put_by.at_hub ∙ ap (λ (i : ℕ). slice_get N.hubs i) at_hub ∙ v.put_by.at_hub) in
-    let same : p.z.number ≡ q.z.number = of_hub one N u.put_by.hub v.put_by.hub d.node e.node p.z.number q.z.number p.n q.n p.octets q.octets (put_at_hub connections N other links d s p) (put_at_hub connections N other links e t q) hub node number put.1 in
+    let same : p.z.number ≡ q.z.number = of_hub one N u.put_by.hub v.put_by.hub d.node e.node p.z.number q.z.number p.n q.n p.octets q.octets (put_at_hub connections N other links d s p)
+    (put_at_hub connections N other links e t q) hub node number put.1 in
     let z : p.z ≡ q.z = λ i. record { hub = at_hub i; number = same i } in
     let n : p.n ≡ q.n = once N other links q.z p.n q.n p.octets q.octets s t (subst (λ (y : SessionName). CameUp N other y p.n p.octets s) z u) v sender place in
     let over_p = links.both (of_node d.node p.link) (of_session p.z) p.leads in
@@ -181,5 +192,6 @@ hub_deliveries_are_apart one connections once N other links d e s t p q node sen
     let link : p.link ≡ q.link = ap (λ (y : Option LinkEnd). life_in y p.link) ends_there in
     let receiver : p.over.receiver ≡ q.over.receiver = same_Some p.over.receiver q.over.receiver (sym p.over.at_receiver ∙ ap (λ (i : ℕ). slice_get N.nodes i) node ∙ q.over.at_receiver) in
     let heard : HearsAt q.over.receiver q.link q.n d.place p.octets =
-    subst (λ (i : ℕ). HearsAt q.over.receiver q.link i d.place p.octets) n (subst (λ (y : LinkLife). HearsAt q.over.receiver y p.n d.place p.octets) link (subst (λ (w : NodeRun). HearsAt w p.link p.n d.place p.octets) receiver p.over.heard)) in
+    subst (λ (i : ℕ). HearsAt q.over.receiver q.link i d.place p.octets) n
+    (subst (λ (y : LinkLife). HearsAt q.over.receiver y p.n d.place p.octets) link (subst (λ (w : NodeRun). HearsAt w p.link p.n d.place p.octets) receiver p.over.heard)) in
     heard_once q.over.receiver q.link q.n d.place e.place p.octets q.octets heard q.over.heard (npdu_of N other d s p) (npdu_of N other e t q)

@@ -1,4 +1,5 @@
 -- What a hub's sessions put is what its sessions were given, each once.
+-- It serves clauses of functions of `laws`.
 use Rattle.std.proofs.Common.{◌≡◌, ◌⊎◌, inl, inr, ℕ, ◌==◌, Bool, true, false, cond, List, [], ◌∷◌, ◌++◌, length, filter, take, drop, Option, Some, None, refl, ap, sym, subst, ◌∙◌}
 use Rattle.std.specs.Prelude.{flat_map, is_none, slice_get}
 use Rattle.std.specs.List.{AllByRecursion}
@@ -152,7 +153,8 @@ module _ (entering_law : EnteringLaw) (taken_law : TakenLaw) (given_law : GivenL
     given : slice_get (given_in from.talk) index ≡ Some m
     as_many : length (allowed (take index (messages_of from.session.course))) ≡ length (forwarded (own before from.terms.caller))
 
-  sender_of : (before later : List Entry) (e : Entry) (sender : ℕ) (m : List ℕ) → h.history ≡ before ++ e ∷ later → e.call ≡ Forward sender m → IsCallerOf h.sessions e.caller → Sender before e.caller sender m
+  sender_of : (before later : List Entry) (e : Entry) (sender : ℕ) (m : List ℕ) → h.history ≡ before ++ e ∷ later → e.call ≡ Forward sender m → IsCallerOf h.sessions e.caller
+      → Sender before e.caller sender m
   sender_of before later e sender m is call (number, x, found, caller) =
       let v = x.terms in
       let c = x.session.course in
@@ -161,7 +163,8 @@ module _ (entering_law : EnteringLaw) (taken_law : TakenLaw) (given_law : GivenL
       let split : x.entries ≡ own before v.caller ++ e ∷ own later v.caller = sym x.stand ∙ own-split v.caller h.history before later e is (sym caller) in
       let made : slice_get (forwarded x.entries) (length (forwarded (own before v.caller))) ≡ Some m =
       ap (λ (l : List Entry). slice_get (forwarded l) (length (forwarded (own before v.caller)))) (sym x.stand) ∙ forwarded-at v.caller h.history before later e sender m is (sym caller) call in
-      let k = got-given f allows_one (messages_of c) (length (forwarded (own before v.caller))) m (allowed-at (IsUnentered c.last) (allowed (messages_of c)) (forwarded x.entries) (length (forwarded (own before v.caller))) m law.made made) in
+      let k = got-given f allows_one (messages_of c) (length (forwarded (own before v.caller))) m
+      (allowed-at (IsUnentered c.last) (allowed (messages_of c)) (forwarded x.entries) (length (forwarded (own before v.caller))) m law.made made) in
       let octets : k.from.octets ≡ m = allows_itself k.from.octets k.from.verdict k.from.denied m k.gives in
       record {
         number = number;
@@ -221,13 +224,15 @@ module _ (entering_law : EnteringLaw) (taken_law : TakenLaw) (given_law : GivenL
 
   pub passes_on : PassesOn h
   passes_on number s n o at got =
-      let law : NpdusAreTaken s.terms s.talk (received h.about h.history s.ended.conn s.ended.taken) s.session.course = taken_law s.terms s.talk s.readings s.entries (received h.about h.history s.ended.conn s.ended.taken) s.ended s.session in
+      let law : NpdusAreTaken s.terms s.talk (received h.about h.history s.ended.conn s.ended.taken) s.session.course =
+      taken_law s.terms s.talk s.readings s.entries (received h.about h.history s.ended.conn s.ended.taken) s.ended s.session in
       by_conn s n o s.ended.conn refl (ap (λ (l : List (List ℕ)). slice_get l n) (sym law) ∙ got)
 
 -- ---- once
 
 -- What one session was given, at one index, was forwarded by one entry.
-pub one_forward : (h : HubRun) (s t : SessionOf h.about h.history) (n j : ℕ) (o k : List ℕ) (p : WasPassedOn h s n o) (q : WasPassedOn h t j k) → p.number ≡ q.number → p.index ≡ q.index → p.entered.before ≡ q.entered.before
+pub one_forward : (h : HubRun) (s t : SessionOf h.about h.history) (n j : ℕ) (o k : List ℕ) (p : WasPassedOn h s n o) (q : WasPassedOn h t j k) → p.number ≡ q.number → p.index ≡ q.index
+    → p.entered.before ≡ q.entered.before
 one_forward h s t n j o k p q number index =
     let S = SessionOf h.about h.history in
     let same : p.sender ≡ q.sender = same_Some p.sender q.sender (sym p.found ∙ ap (λ (i : ℕ). slice_get h.sessions i) number ∙ q.found) in
@@ -241,7 +246,8 @@ one_forward h s t n j o k p q number index =
     ap (λ (b : Bool). cond b (forwarded_in p.entered.forward.call) []) (eq-eqb p.entered.forward.caller caller first) ∙ ap forwarded_in p.entered.call in
     let gives_q : forward_of caller q.entered.forward ≡ q.entered.message ∷ [] =
     ap (λ (b : Bool). cond b (forwarded_in q.entered.forward.call) []) (eq-eqb q.entered.forward.caller caller q.caller) ∙ ap forwarded_in q.entered.call in
-    same-split (forward_of caller) p.entered.before q.entered.before p.entered.forward q.entered.forward p.entered.later q.entered.later p.entered.message q.entered.message gives_p gives_q (sym p.entered.is ∙ q.entered.is)
+    same-split (forward_of caller) p.entered.before q.entered.before p.entered.forward q.entered.forward p.entered.later q.entered.later p.entered.message q.entered.message gives_p gives_q
+    (sym p.entered.is ∙ q.entered.is)
     (ap length (forwarded-own caller p.entered.before) ∙ as_many ∙ sym (ap length (forwarded-own caller q.entered.before)))
 
 pub passes_on_once : (h : HubRun) → PassesOnOnce h

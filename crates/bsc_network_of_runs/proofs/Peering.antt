@@ -1,4 +1,5 @@
 -- Who is at the other end of a direct connection: each node has met the other over this very link.
+-- It serves clauses of functions of `laws`.
 use Rattle.std.proofs.Common.{◌≡◌, inl, inr, ℕ, ◌==◌, ◌||◌, Bool, true, false, List, ◌++◌, take, Option, Some, None, refl, ap, sym, subst, ◌∙◌}
 use Rattle.std.specs.Prelude.{IsTrue, slice_get, slice_index}
 use Rattle.std.specs.Option.{option_map}
@@ -31,7 +32,8 @@ use Rattle.bsc_node_identity.specs.There.{ConnectsAreAsBegun, EstablishedAreTher
 use Rattle.bsc_node_identity.proofs.OneMore.{established-same}
 use Rattle.bsc_node_identity.proofs.Settled.{fitting}
 use Rattle.bsc_node_links.specs.Lives.{HasBegun, LinkLife, given_over, put_over}
-use Rattle.bsc_network_of_runs.specs.Deliveries.{CameDirectly, CameFrom, Delivery, DirectDeliveriesHaveTheirNodes, HubDeliveriesHaveTheirNodes, RunsDeliverOnlyWhatWasSent, RunsDeliverWhatWasSent, SentDirectly, WasSentBy}
+use Rattle.bsc_network_of_runs.specs.Deliveries.{CameDirectly, CameFrom, Delivery, DirectDeliveriesHaveTheirNodes, HubDeliveriesHaveTheirNodes, RunsDeliverOnlyWhatWasSent}
+use Rattle.bsc_network_of_runs.specs.Deliveries.{RunsDeliverWhatWasSent, SentDirectly, WasSentBy}
 use Rattle.bsc_network_of_runs.specs.Networks.{AreLinks, Carries, Fit, LinkEnd, Network, OtherEnd, Traffic, of_node}
 use Rattle.bsc_network_of_runs.specs.Nodes.{HasNow, NodeRun, Sending, log_of}
 use Rattle.bsc_network_of_runs.specs.Reached.{EventsAreReached}
@@ -65,7 +67,8 @@ born n x = own n.made (take x.began (log_of n))
 at_log : (a : Made) (P : Log → Type 0) → ((events : List TimedEvent) → IsTrue (may_all_come a events) → P (log a events)) → (L : Log) → IsLogOf a L → P L
 at_log a P law L reached = subst P (sym reached.is) (law reached.events reached.may)
 
-at_event : (a : Made) (P : Log → TimedEvent → Type 0) → ((events : List TimedEvent) (e : TimedEvent) → IsTrue (may_all_come a events) → IsTrue (may_come (log a events) e) → P (log a events) e) → (L : Log) (e : TimedEvent) → IsLogOf a L → IsTrue (may_come L e) → P L e
+at_event : (a : Made) (P : Log → TimedEvent → Type 0) → ((events : List TimedEvent) (e : TimedEvent) → IsTrue (may_all_come a events) → IsTrue (may_come (log a events) e)
+    → P (log a events) e) → (L : Log) (e : TimedEvent) → IsLogOf a L → IsTrue (may_come L e) → P L e
 at_event a P law L e reached may = subst (λ (M : Log). P M e) (sym reached.is) (law reached.events e reached.may (subst (λ (M : Log). IsTrue (may_come M e)) reached.is may))
 
 direct_name : (name : LinkName) → is_hub name ≡ false → (k : ℕ) × (name ≡ Direct k)
@@ -78,7 +81,8 @@ no_connect o h = (let first : slice_index o 0 ≡ 1 = eqb-true (slice_index o 0)
 -- ---- what a node is while its link is there
 
 -- While a link is there the node is who it was when the link began.
-pub own_now : ((a : Made) → LinksHaveOneVmac a) → (n : NodeRun) (P : Log) (rest : List Line) (x : LinkLife) → log_of n ≡ P ++ rest → IsLogOf n.made P → HasNow P x → is_there x.name P ≡ true → own n.made P ≡ born n x
+pub own_now : ((a : Made) → LinksHaveOneVmac a) → (n : NodeRun) (P : Log) (rest : List Line) (x : LinkLife) → log_of n ≡ P ++ rest → IsLogOf n.made P → HasNow P x → is_there x.name P ≡ true
+    → own n.made P ≡ born n x
 own_now one_vmac n P rest x is reached has there =
     let a = n.made in
     let law = at_log a (λ (L : Log). (name : LinkName) → is_there name L ≡ true → own_vmac a (until (begins name) L) ≡ own_vmac a L) (one_vmac a) P reached in
@@ -86,7 +90,8 @@ own_now one_vmac n P rest x is reached has there =
     ap (λ (v : Vmac). record a.own { vmac = v }) vmac
 
 -- A Connect-Request and a Connect-Accept that it put on a link has the identity with which that began.
-pub put_as_born : ((a : Made) → ConnectsAreAsBegun a) → (n : NodeRun) (x : LinkLife) (o : List ℕ) → HasBegun (log_of n) x → In o (put_over (log_of n) x) → is_connect o ≡ true → IsConnectOf (born n x) o
+pub put_as_born : ((a : Made) → ConnectsAreAsBegun a) → (n : NodeRun) (x : LinkLife) (o : List ℕ) → HasBegun (log_of n) x → In o (put_over (log_of n) x) → is_connect o ≡ true
+    → IsConnectOf (born n x) o
 put_as_born as_begun n x o begun h connects =
     let p = put_at (log_of n) x o begun h in
     let r = as_begun n.made n.events n.may p.before p.later x.name o p.is connects in
@@ -107,7 +112,8 @@ module _ (laws : PeerLaws) where
 
   module _ (N : Network) (other : OtherEnd) (links : AreLinks N other) where
     -- what a link gave was put at its other end
-    came_over : (k j : ℕ) (n m : NodeRun) (x y : LinkLife) (o : List ℕ) → slice_get N.nodes k ≡ Some n → slice_get N.nodes j ≡ Some m → other (of_node k x) ≡ Some (of_node j y) → HasBegun (log_of n) x → In o (given_over (log_of n) x)
+    came_over : (k j : ℕ) (n m : NodeRun) (x y : LinkLife) (o : List ℕ) → slice_get N.nodes k ≡ Some n → slice_get N.nodes j ≡ Some m → other (of_node k x) ≡ Some (of_node j y)
+        → HasBegun (log_of n) x → In o (given_over (log_of n) x)
         → HasBegun (log_of m) y × In o (put_over (log_of m) y)
     came_over k j n m x y o at at_m leads begun h = by (subst (λ (e : Option LinkEnd). Carries N e t) leads (links.carry (of_node k x) t (n, at, begun, refl)))
       where
@@ -179,11 +185,13 @@ module _ (laws : PeerLaws) where
         is : peer P x.name ≡ Some who
         address : who.vmac ≡ d.delivered.from
 
-      known_so : (name : LinkName) → is_hub name ≡ false → p.over.heard.e.event ≡ Came name p.octets → (who : Identity) → peer (with_heard R.made P p.over.heard.e name p.octets) name ≡ Some who → peer P name ≡ Some who
+      known_so : (name : LinkName) → is_hub name ≡ false → p.over.heard.e.event ≡ Came name p.octets → (who : Identity)
+          → peer (with_heard R.made P p.over.heard.e name p.octets) name ≡ Some who → peer P name ≡ Some who
       known_so (Hub t) h brings who is = cc
       known_so (Direct k) h brings who is =
           at_event R.made
-          (λ (L : Log) (e : TimedEvent). (i : ℕ) (o : List ℕ) (w : Identity) → e.event ≡ Came (Direct i) o → is_connect o ≡ false → peer (with_heard R.made L e (Direct i) o) (Direct i) ≡ Some w → peer L (Direct i) ≡ Some w) (laws.stay R.made) P p.over.heard.e P_reached p.over.heard.comes.may
+          (λ (L : Log) (e : TimedEvent). (i : ℕ) (o : List ℕ) (w : Identity) → e.event ≡ Came (Direct i) o → is_connect o ≡ false
+          → peer (with_heard R.made L e (Direct i) o) (Direct i) ≡ Some w → peer L (Direct i) ≡ Some w) (laws.stay R.made) P p.over.heard.e P_reached p.over.heard.comes.may
           k p.octets who brings (no_connect p.octets (own-npdu S.made (log_of S) y p.n s p.octets p.sent)) is
 
       known : Known
@@ -199,7 +207,8 @@ module _ (laws : PeerLaws) where
 
       known_is : known.who ≡ born S y
       known_is =
-          named_is d.node s.node R S x y p.over.at_receiver p.at_sender p.leads (begun_still R.made (log_of R) x d.place p.over.heard.e p.over.heard.comes p.over.heard.has.begun) P _ p.over.heard.comes.is p.over.heard.has known.who
+          named_is d.node s.node R S x y p.over.at_receiver p.at_sender p.leads (begun_still R.made
+          (log_of R) x d.place p.over.heard.e p.over.heard.comes p.over.heard.has.begun) P _ p.over.heard.comes.is p.over.heard.has known.who
           (peer_named x.name fit.0 known.who known.is)
 
       -- ---- with whom the receiver's slot came up
@@ -214,10 +223,12 @@ module _ (laws : PeerLaws) where
           let k = direct_name x.name fit.0 in
           let npdu = own-npdu S.made (log_of S) y p.n s p.octets p.sent in
           let brings : p.over.heard.e.event ≡ Came (Direct k.0) p.octets = subst (λ (name : LinkName). p.over.heard.e.event ≡ Came name p.octets) k.1 p.over.heard.brings in
-          let passed : verdict R.made (with_event P p.over.heard.e) (Direct k.0) p.octets ≡ Pass p.passed.0 = subst (λ (name : LinkName). verdict R.made (with_event P p.over.heard.e) name p.octets ≡ Pass p.passed.0) k.1 p.passed.1 in
+          let passed : verdict R.made (with_event P p.over.heard.e) (Direct k.0) p.octets ≡ Pass p.passed.0 =
+          subst (λ (name : LinkName). verdict R.made (with_event P p.over.heard.e) name p.octets ≡ Pass p.passed.0) k.1 p.passed.1 in
           let up =
           at_event R.made
-          (λ (L : Log) (e : TimedEvent). (i : ℕ) (o : List ℕ) (msg : Message) → e.event ≡ Came (Direct i) o → verdict R.made (with_event L e) (Direct i) o ≡ Pass msg → (function_in o == 1) ≡ true → (who : Identity) × (peer L (Direct i) ≡ Some who) × CameUpWith L i who) (laws.up R.made)
+          (λ (L : Log) (e : TimedEvent). (i : ℕ) (o : List ℕ) (msg : Message) → e.event ≡ Came (Direct i) o → verdict R.made (with_event L e) (Direct i) o ≡ Pass msg
+          → (function_in o == 1) ≡ true → (who : Identity) × (peer L (Direct i) ≡ Some who) × CameUpWith L i who) (laws.up R.made)
           P p.over.heard.e P_reached p.over.heard.comes.may k.0 p.octets p.passed.0 brings passed npdu in
           let one : up.0 ≡ known.who = same_Some up.0 known.who (sym up.1 ∙ ap (peer P) (sym k.1) ∙ known.is) in
           record { slot = k.0; name = k.1; came_up = subst (CameUpWith P k.0) one up.2 }
@@ -244,7 +255,8 @@ module _ (laws : PeerLaws) where
 
       held_is : held.who ≡ born R x
       held_is =
-          named_is s.node d.node S R y x p.at_sender p.over.at_receiver back (begun_still S.made (log_of S) y s.place p.sent.e p.sent.comes p.sent.has.begun) Q _ p.sent.comes.is p.sent.has held.who held_named
+          named_is s.node d.node S R y x p.at_sender p.over.at_receiver back (begun_still S.made
+          (log_of S) y s.place p.sent.e p.sent.comes p.sent.has.begun) Q _ p.sent.comes.is p.sent.has held.who held_named
 
       y_there : is_there y.name Q ≡ true
       y_there =
@@ -282,7 +294,8 @@ without_addresses : (N : Network) (other : OtherEnd) (d : Delivery) (s : Sending
 without_addresses N other d s (inl p) = inl p.by_hub
 without_addresses N other d s (inr p) = inr p.direct
 
-with_addresses : HubDeliveriesHaveTheirNodes → DirectDeliveriesHaveTheirNodes → (N : Network) (other : OtherEnd) → AreLinks N other → (d : Delivery) (s : Sending) → WasSentBy N other d s → CameFrom N other d s
+with_addresses : HubDeliveriesHaveTheirNodes → DirectDeliveriesHaveTheirNodes → (N : Network) (other : OtherEnd) → AreLinks N other → (d : Delivery) (s : Sending) → WasSentBy N other d s
+    → CameFrom N other d s
 with_addresses hubs directly N other links d s (inl p) = inl (hubs N other links d s p)
 with_addresses hubs directly N other links d s (inr p) = inr (directly N other links d s p)
 

@@ -1,5 +1,7 @@
 -- What a node's script sends goes to addresses of six octets.
-use Rattle.std.proofs.Common.{◌≡◌, ◌/◌, ◌%◌, ℕ, ◌+◌, Bool, true, false, if◌then◌else◌, ◌||◌, nat_eq, List, [], ◌∷◌, length, map, option_map, codes, Option, Some, None, IfSome, Result, Ok, Err, IfOk, inl, inr, refl, sym, ◌∙◌, arith}
+-- It serves the clauses of `runs_are_of_nodes` and `stopped_runs_are_of_nodes`.
+use Rattle.std.proofs.Common.{◌≡◌, ◌/◌, ◌%◌, ℕ, ◌+◌, Bool, true, false, if◌then◌else◌, ◌||◌, nat_eq, List, [], ◌∷◌, length, map, option_map, codes, Option, Some, None, IfSome}
+use Rattle.std.proofs.Common.{Result, Ok, Err, IfOk, inl, inr, refl, sym, ◌∙◌, arith}
 use Rattle.std.specs.Prelude.{⊤}
 use Rattle.std.specs.List.{cons_option}
 use Rattle.std.proofs.lemmas.Bool.{cases_eq}

@@ -1,5 +1,7 @@
 -- Each Encapsulated-NPDU that a node puts on a link is of a Send.
-use Rattle.std.proofs.Common.{◌≡◌, ◌⊎◌, inl, inr, ℕ, ◌+◌, Bool, true, false, cond, ◌||◌, List, [], ◌∷◌, ◌++◌, length, filter, drop, Option, Some, None, refl, ap, sym, subst, ◌∙◌, append-nil, append_assoc, arith, zero, suc}
+-- It serves clauses of functions of `laws`.
+use Rattle.std.proofs.Common.{◌≡◌, ◌⊎◌, inl, inr, ℕ, ◌+◌, Bool, true, false, cond, ◌||◌, List, [], ◌∷◌, ◌++◌, length, filter, drop, Option, Some, None, refl, ap, sym, subst, ◌∙◌}
+use Rattle.std.proofs.Common.{append-nil, append_assoc, arith, zero, suc}
 use Rattle.std.specs.Prelude.{IsTrue, filter_map, flat_map, slice_get}
 use Rattle.std.specs.List.{list_any}
 use Rattle.std.proofs.lemmas.Grind.{flat_map-append}
@@ -68,7 +70,8 @@ none_put name (did (Put other o) ∷ lines) h = by (λ g. none_put name lines g)
     here true is = ap (λ (b : Bool). cond b (o ∷ put_until name lines) (put_until name lines)) is
     here false is = refl
 
-    by : (put_in_all lines ≡ [] → put_until name lines ≡ []) → (b : Bool) → is_npdu o ≡ b → cond b (Put other o ∷ put_in_all lines) (put_in_all lines) ≡ [] → put_until name (did (Put other o) ∷ lines) ≡ []
+    by : (put_in_all lines ≡ [] → put_until name lines ≡ []) → (b : Bool) → is_npdu o ≡ b → cond b (Put other o ∷ put_in_all lines) (put_in_all lines) ≡ []
+        → put_until name (did (Put other o) ∷ lines) ≡ []
     by rec true is g = absurd (tail-nil (Put other o) (put_in_all lines) g)
     by rec false is g = here (same_link other name) is ∙ rec g
 none_put name (did (Dial other uri) ∷ lines) h = none_so name (did (Dial other uri)) lines refl (none_put name lines h)
@@ -97,11 +100,17 @@ one_put name link p (did (Put other o) ∷ lines) h = by (λ g. one_put name lin
     here false is = refl
 
     -- this is the one
-    that : (b : Bool) → same_link other name ≡ b → is_npdu o ≡ true → put_until name lines ≡ [] → other ≡ link → o ≡ p → IsOne name link p (npdus (cond b (o ∷ []) [] ++ flat_map (put_by name) (until_anew name lines)))
-    that true same is none le oe = inr (ap (λ (b : Bool). cond b (o ∷ put_until name lines) (put_until name lines)) is ∙ ap (λ (l : List (List ℕ)). o ∷ l) none ∙ ap (λ (q : List ℕ). q ∷ []) oe, sym le ∙ same_link-is other name same)
+    that : (b : Bool) → same_link other name ≡ b → is_npdu o ≡ true → put_until name lines ≡ [] → other ≡ link → o ≡ p
+        → IsOne name link p (npdus (cond b (o ∷ []) [] ++ flat_map (put_by name) (until_anew name lines)))
+    that true same is none le oe = inr (
+      ap (λ (b : Bool). cond b (o ∷ put_until name lines) (put_until name lines)) is ∙ ap (λ (l : List (List ℕ)). o ∷ l) none
+          ∙ ap (λ (q : List ℕ). q ∷ []) oe,
+      sym le ∙ same_link-is other name same,
+    )
     that false same is none le oe = inl none
 
-    by : (put_in_all lines ≡ Put link p ∷ [] → IsOne name link p (put_until name lines)) → (b : Bool) → is_npdu o ≡ b → cond b (Put other o ∷ put_in_all lines) (put_in_all lines) ≡ Put link p ∷ [] → IsOne name link p (put_until name (did (Put other o) ∷ lines))
+    by : (put_in_all lines ≡ Put link p ∷ [] → IsOne name link p (put_until name lines)) → (b : Bool) → is_npdu o ≡ b
+        → cond b (Put other o ∷ put_in_all lines) (put_in_all lines) ≡ Put link p ∷ [] → IsOne name link p (put_until name (did (Put other o) ∷ lines))
     by rec true is g =
         let rest : put_in_all lines ≡ [] = cc in
         let le : other ≡ link = cc in
@@ -217,7 +226,8 @@ sent_still a L x r o more s = record {
 }
 
 module _ (law : (a : Made) → NpdusArePutOnce a) (a : Made) (L : Log) (e : TimedEvent) (may : IsTrue (may_come L e)) where
-  sent_now : (x : LinkLife) (r : ℕ) (o : List ℕ) (once : IsPutOnce a L e) → HasNow L x → r ≡ length (npdus (put_over L x)) → own_message once.2 (Npdu once.1) (with_event L e) ≡ o → once.2.link ≡ x.name → SentIn a (L ++ goes_on a e L) x r o
+  sent_now : (x : LinkLife) (r : ℕ) (o : List ℕ) (once : IsPutOnce a L e) → HasNow L x → r ≡ length (npdus (put_over L x)) → own_message once.2 (Npdu once.1) (with_event L e) ≡ o
+      → once.2.link ≡ x.name → SentIn a (L ++ goes_on a e L) x r o
   sent_now x r o once has nth is link = record {
     place = length L;
     dest = once.0;
@@ -263,17 +273,21 @@ module _ (law : (a : Made) → NpdusArePutOnce a) (a : Made) (L : Log) (e : Time
           ∙ filter-append is_npdu (flat_map (put_by x.name) D) (flat_map (put_by x.name) (until_anew x.name ls))
           ∙ ap (λ (l : List (List ℕ)). npdus l ++ put_until x.name ls) (sym (over_now none))
 
-      new : (none : list_any (begins x.name) D ≡ false) → (once : IsPutOnce a L e) → IsOne x.name once.2.link (own_message once.2 (Npdu once.1) (with_event L e)) (put_until x.name ls) → SentIn a (L ++ ls) x r o
-      new none once (inl empty) = old (subst (λ (l : List (List ℕ)). slice_get l r ≡ Some o) (both none ∙ ap (λ (l : List (List ℕ)). npdus (put_over L x) ++ l) empty ∙ append-nil (npdus (put_over L x))) h)
+      new : (none : list_any (begins x.name) D ≡ false) → (once : IsPutOnce a L e) → IsOne x.name once.2.link (own_message once.2 (Npdu once.1) (with_event L e)) (put_until x.name ls)
+          → SentIn a (L ++ ls) x r o
+      new none once (inl empty) = old (subst (λ (l : List (List ℕ)). slice_get l r ≡ Some o)
+          (both none ∙ ap (λ (l : List (List ℕ)). npdus (put_over L x) ++ l) empty ∙ append-nil (npdus (put_over L x))) h)
       new none once (inr (one, link)) =
-          elim (got-more (npdus (put_over L x)) (own_message once.2 (Npdu once.1) (with_event L e)) r o (subst (λ (l : List (List ℕ)). slice_get l r ≡ Some o) (both none ∙ ap (λ (l : List (List ℕ)). npdus (put_over L x) ++ l) one) h)) [
+          elim (got-more (npdus (put_over L x)) (own_message once.2 (Npdu once.1) (with_event L e)) r o
+          (subst (λ (l : List (List ℕ)). slice_get l r ≡ Some o) (both none ∙ ap (λ (l : List (List ℕ)). npdus (put_over L x) ++ l) one) h)) [
             | inl g ↦ old g
             | inr g ↦ sent_now x r o once (record { begun = has; since = none }) g.0 g.1 link
           ]
 
       none_new : list_any (begins x.name) D ≡ false → (npdus_put a L e ≡ []) ⊎ IsPutOnce a L e → SentIn a (L ++ ls) x r o
       none_new none (inl empty) =
-          old (subst (λ (l : List (List ℕ)). slice_get l r ≡ Some o) (both none ∙ ap (λ (l : List (List ℕ)). npdus (put_over L x) ++ l) (none_put x.name ls empty) ∙ append-nil (npdus (put_over L x))) h)
+          old (subst (λ (l : List (List ℕ)). slice_get l r ≡ Some o) (both none ∙ ap (λ (l : List (List ℕ)). npdus (put_over L x) ++ l) (none_put x.name ls empty)
+          ∙ append-nil (npdus (put_over L x))) h)
       none_new none (inr once) = new none once (one_put x.name once.2.link (own_message once.2 (Npdu once.1) (with_event L e)) ls once.5)
 
       by : (b : Bool) → list_any (begins x.name) D ≡ b → SentIn a (L ++ ls) x r o
@@ -281,7 +295,8 @@ module _ (law : (a : Made) → NpdusArePutOnce a) (a : Made) (L : Log) (e : Time
       by false none = none_new none (law a L e may)
 
   -- it begins by this event, which then is no Send
-  begun_now : (x : LinkLife) (r j : ℕ) (o : List ℕ) (m : Line) → x.began ≡ length L + j → slice_get (goes_on a e L) j ≡ Some m → begins x.name m ≡ true → slice_get (npdus (put_over (L ++ goes_on a e L) x)) r ≡ Some o → ⊥
+  begun_now : (x : LinkLife) (r j : ℕ) (o : List ℕ) (m : Line) → x.began ≡ length L + j → slice_get (goes_on a e L) j ≡ Some m → begins x.name m ≡ true
+      → slice_get (npdus (put_over (L ++ goes_on a e L) x)) r ≡ Some o → ⊥
   begun_now x r j o m is at begins_it h = by (law a L e may)
     where
       ls : List Line
@@ -292,7 +307,8 @@ module _ (law : (a : Made) → NpdusArePutOnce a) (a : Made) (L : Log) (e : Time
 
       by : (npdus_put a L e ≡ []) ⊎ IsPutOnce a L e → ⊥
       by (inl empty) =
-          nothing_got r o (subst (λ (l : List (List ℕ)). slice_get l r ≡ Some o) (ap (λ (l : List Line). put_until x.name l) since ∙ none_put x.name (drop (j + 1) ls) (none_behind (j + 1) ls empty)) h)
+          nothing_got r o (subst (λ (l : List (List ℕ)). slice_get l r ≡ Some o)
+          (ap (λ (l : List Line). put_until x.name l) since ∙ none_put x.name (drop (j + 1) ls) (none_behind (j + 1) ls empty)) h)
       by (inr once) = any-got (begins x.name) ls j m at begins_it (send_begins a L e once.0 once.1 x.name once.3)
 
   step : AreSent a L → AreSent a (L ++ goes_on a e L)

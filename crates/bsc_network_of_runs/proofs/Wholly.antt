@@ -1,4 +1,5 @@
 -- What is sent in a run goes to addresses of six octets, where its script says so.
+-- It serves the clauses of `runs_are_of_nodes` and `stopped_runs_are_of_nodes`.
 use Rattle.std.proofs.Common.{◌≡◌, inl, inr, ℕ, zero, suc, arith, Bool, true, false, List, [], ◌∷◌, ◌++◌, Option, Some, None, Result, Ok, Err, refl, ap, sym, subst, ◌∙◌}
 use Rattle.std.specs.Prelude.{IsTrue, unwrap_or, ⊤}
 use Rattle.std.specs.List.{Contains}
@@ -159,7 +160,8 @@ module _ {L : Type 0} (a : Made) (talk : L → Option (List Said)) (now : ℕ) w
   hears_each [] M w N v (e, s) = wholly-none M N e
   hears_each (name ∷ all) M w N v (P, x, h, later) = wholly-then M P N (hears_if name (is_open name w) M w P x h) (hears_each all P x N v later)
 
-  admits : (listens : Bool) (M : Log) (w : World L) (door : Admitting L) (N : Log) (v : World L) (door' : Admitting L) → Admits (GoesAsDefined a) talk now listens (moment M w door) (moment N v door') → Wholly M N
+  admits : (listens : Bool) (M : Log) (w : World L) (door : Admitting L) (N : Log) (v : World L) (door' : Admitting L)
+      → Admits (GoesAsDefined a) talk now listens (moment M w door) (moment N v door') → Wholly M N
   admits false M w door N v door' (e, s, same) = wholly-none M N e
   admits true M w door N v door' (waits, inl (e, s, none)) = wholly-none M N e
   admits true M w door N v door' (waits, inr (l, leaves, g)) = gives Arrived M (record w { arrived = Some l }) N v tt g
@@ -185,4 +187,5 @@ module _ {L : Type 0} (a : Made) (talk : L → Option (List Said)) (listens : Bo
       → Turns (GoesAsDefined a) talk listens times start script (moment M w door) (moment N v door') → Wholly M N
   turns [] start script whole M w door N v door' (e, s, same) = wholly-none M N e
   turns (now ∷ times) start script whole M w door N v door' (rest, P, x, mid, going, t, later) =
-      wholly-then M P N (turn a talk now start script rest whole listens M w door P x mid t) (turns times (Some (unwrap_or start now)) rest (whole_right t.lines rest (subst AreWhole t.parts whole)) P x mid N v door' later)
+      wholly-then M P N (turn a talk now start script rest whole listens M w door P x mid t)
+      (turns times (Some (unwrap_or start now)) rest (whole_right t.lines rest (subst AreWhole t.parts whole)) P x mid N v door' later)

@@ -1,4 +1,5 @@
 -- Wires whose ends tell what they gave and took are the links of a network.
+-- It serves the clauses of `wires_are_links`.
 use Rattle.std.proofs.Common.{ℕ, List, ◌++◌, Option, Some, None, ap, sym, ◌∙◌, append_assoc}
 use Rattle.bsc_node_links.specs.Talks.{AreFirstOf, put_in}
 use Rattle.bsc_network_of_runs.specs.Networks.{Carries, HasTraffic, LinkEnd, Traffic}

@@ -1,4 +1,5 @@
 -- A hub that was served, written out: A connects, sends an NPDU to itself, gets it, and closes. What its session put was passed on.
+-- No clause needs it: worked examples.
 use Rattle.std.proofs.Common.{◌≡◌, ℕ, List, [], ◌∷◌, Some, refl, subst}
 use Rattle.std.specs.Prelude.{slice_get}
 use Rattle.std.specs.List.{AllByRecursion}

@@ -1,5 +1,6 @@
 -- Two hubs that were served, written out. At the first A and B connect, A asks for B's URIs, and B answers; then A connects again, in
 -- place of its first connection, and sends an NPDU to all. At the second C sends an NPDU to itself.
+-- No clause needs it: worked examples.
 use Rattle.std.proofs.Common.{◌≡◌, ◌<◌, ℕ, true, List, [], ◌∷◌, ◌++◌, Option, Some, None, Result, Ok, is_none, is_some, refl, subst, inl, inr, lit<, lit≤}
 use Rattle.std.specs.Prelude.{codes}
 use Rattle.std.specs.List.{AllByRecursion}
@@ -22,7 +23,7 @@ use Rattle.bsc_edge.specs.declared.incoming.Incoming.TheVariants.{Closed, Messag
 use Rattle.bsc_edge.specs.declared.said.Said.{Said}
 use Rattle.bsc_edge.specs.declared.said.Said.TheVariants.{Gave, Put}
 use Rattle.bsc_checks.proofs.OnLiterals.{verdict_on_literals}
-use Rattle.bsc_notes.proofs.Common.{no_line}
+use Rattle.bsc_session.proofs.NoteFacts.Common.{no_line}
 use Rattle.bsc_session.specs.declared.ended.Ended.{Ended}
 use Rattle.bsc_session.specs.declared.why.Why.TheVariants.{PeerClosed}
 use Rattle.bsc_session.specs.Answering.{AnswerFits, calls_hub, put_after, step_of}
@@ -182,10 +183,12 @@ abbrev gets_first : List (List ℕ) → Opening
 gets_first frames = record { reading = 0; frames = frames; met = None; lost = None; fault = None }
 
 -- one that takes nothing, as it may be
-hears : (a : About) (caller : ℕ) (s : Standing) (given : Result Incoming LinkFault) (answer : Option Answer) → s.receives < (terms_at a caller).turns → true ≡ is_none (stop_before (terms_at a caller) s (gets_first []))
+hears : (a : About) (caller : ℕ) (s : Standing) (given : Result Incoming LinkFault) (answer : Option Answer) → s.receives < (terms_at a caller).turns
+    → true ≡ is_none (stop_before (terms_at a caller) s (gets_first []))
     → LacksAtPass (terms_at a caller) (opened s (gets_first [])) true given
     → is_some answer ≡ calls_hub (terms_at a caller) (opened s (gets_first [])) (step_of (terms_at a caller) (opened s (gets_first [])) 0 (heard_so given true answer None)) given
-    → AnswerFits (step_of (terms_at a caller) (opened s (gets_first [])) 0 (heard_so given true answer None)) answer → HasPut (put_after (terms_at a caller) (opened s (gets_first [])) 0 (heard_so given true answer None)) None
+    → AnswerFits (step_of (terms_at a caller) (opened s (gets_first [])) 0 (heard_so given true answer None)) answer
+    → HasPut (put_after (terms_at a caller) (opened s (gets_first [])) 0 (heard_so given true answer None)) None
     → IsTurn (terms_at a caller) s (record { opening = gets_first []; hearing = Some (heard_so given true answer None) })
 hears a caller s given answer room on memory calls fits cause = record {
   room = room;
@@ -220,7 +223,12 @@ first_of_a = told_by (terms_at first_hub 1) (record {
     (
       hears first_hub 1 _ _ _ (lit< tt) refl tt refl tt tt,
       (
-        record { room = lit< tt; opening = record { takes = inl (refl, refl); few = lit≤ tt; not_left = λ h. cc; line = tt; cause = tt }; heard = refl; hearing = record { memory = tt; calls = refl; fits = tt; line = tt; cause = tt } },
+        record {
+          room = lit< tt;
+          opening = record { takes = inl (refl, refl); few = lit≤ tt; not_left = λ h. cc; line = tt; cause = tt };
+          heard = refl;
+          hearing = record { memory = tt; calls = refl; fits = tt; line = tt; cause = tt };
+        },
         tt,
       ),
     ),
@@ -266,9 +274,19 @@ of_b = told_by (terms_at first_hub 2) (record {
   turns = (
     hears first_hub 2 _ _ _ (lit< tt) refl tt refl refl tt,
     (
-      record { room = lit< tt; opening = record { takes = inl (refl, refl); few = lit≤ tt; not_left = λ h. cc; line = tt; cause = tt }; heard = refl; hearing = record { memory = tt; calls = refl; fits = tt; line = tt; cause = tt } },
+      record {
+        room = lit< tt;
+        opening = record { takes = inl (refl, refl); few = lit≤ tt; not_left = λ h. cc; line = tt; cause = tt };
+        heard = refl;
+        hearing = record { memory = tt; calls = refl; fits = tt; line = tt; cause = tt };
+      },
       (
-        record { room = lit< tt; opening = record { takes = inl (refl, refl); few = lit≤ tt; not_left = λ h. cc; line = tt; cause = tt }; heard = refl; hearing = record { memory = tt; calls = refl; fits = tt; line = tt; cause = tt } },
+        record {
+          room = lit< tt;
+          opening = record { takes = inl (refl, refl); few = lit≤ tt; not_left = λ h. cc; line = tt; cause = tt };
+          heard = refl;
+          hearing = record { memory = tt; calls = refl; fits = tt; line = tt; cause = tt };
+        },
         tt,
       ),
     ),
@@ -350,7 +368,12 @@ of_c = told_by (terms_at second_hub 1) (record {
     (
       hears second_hub 1 _ _ _ (lit< tt) refl tt refl tt tt,
       (
-        record { room = lit< tt; opening = record { takes = inl (refl, refl); few = lit≤ tt; not_left = λ h. cc; line = tt; cause = tt }; heard = refl; hearing = record { memory = tt; calls = refl; fits = tt; line = tt; cause = tt } },
+        record {
+          room = lit< tt;
+          opening = record { takes = inl (refl, refl); few = lit≤ tt; not_left = λ h. cc; line = tt; cause = tt };
+          heard = refl;
+          hearing = record { memory = tt; calls = refl; fits = tt; line = tt; cause = tt };
+        },
         tt,
       ),
     ),

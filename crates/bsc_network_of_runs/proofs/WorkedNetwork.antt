@@ -1,4 +1,5 @@
 -- A network of one hub and one node, written out: each premise of the theorem holds of it.
+-- No clause needs it: worked examples.
 use Rattle.std.proofs.Common.{◌≡◌, ℕ, zero, suc, ◌==◌, Bool, true, List, [], ◌∷◌, length, Some, refl, ap, sym, ◌∙◌, lit<}
 use Rattle.std.specs.Prelude.{slice_get, slice_index}
 use Rattle.std.specs.List.{list_all}
@@ -46,7 +47,14 @@ is_whole (Send dest npdu) h = eqb-true (length dest.0) 6 h
 is_whole e h = tt
 
 pub a_is_node : IsNode node_a.own
-a_is_node = record { address = refl; device = refl; reserved = λ h. (let n : 2 ≡ 0 = ap (λ (v : Vmac). slice_index v.0 0) h in cc); broadcast = λ h. (let n : 2 ≡ 255 = ap (λ (v : Vmac). slice_index v.0 0) h in cc); bvlc = lit< tt; npdu = lit< tt }
+a_is_node = record {
+  address = refl;
+  device = refl;
+  reserved = λ h. (let n : 2 ≡ 0 = ap (λ (v : Vmac). slice_index v.0 0) h in cc);
+  broadcast = λ h. (let n : 2 ≡ 255 = ap (λ (v : Vmac). slice_index v.0 0) h in cc);
+  bvlc = lit< tt;
+  npdu = lit< tt;
+}
 
 abbrev pub the_node : NodeRun
 the_node = record {

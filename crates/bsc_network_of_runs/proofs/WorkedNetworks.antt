@@ -1,5 +1,6 @@
 -- A network of two hubs and three nodes, written out: A and B at the first hub, and over a direct connection; A connects to that hub once
 -- more, in place of its first connection; C can't reach the first hub and uses the second as its failover.
+-- No clause needs it: worked examples.
 use Rattle.std.proofs.Common.{◌≡◌, ℕ, suc, true, false, List, [], ◌∷◌, Option, Some, None, refl, ap, lit<}
 use Rattle.std.specs.Prelude.{codes, filter_map, flat_map, slice_index, unwrap_or, slice_get}
 use Rattle.std.specs.List.{list_all}
@@ -43,13 +44,34 @@ abbrev c : Made
 c = made 0x0C (Some (codes "ws://f/")) None
 
 a_is_node : IsNode a.own
-a_is_node = record { address = refl; device = refl; reserved = λ h. (let k : ◌≡◌ {A = ℕ} 2 0 = ap (λ (v : Vmac). slice_index v.0 0) h in cc); broadcast = λ h. (let k : ◌≡◌ {A = ℕ} 2 255 = ap (λ (v : Vmac). slice_index v.0 0) h in cc); bvlc = lit< tt; npdu = lit< tt }
+a_is_node = record {
+  address = refl;
+  device = refl;
+  reserved = λ h. (let k : ◌≡◌ {A = ℕ} 2 0 = ap (λ (v : Vmac). slice_index v.0 0) h in cc);
+  broadcast = λ h. (let k : ◌≡◌ {A = ℕ} 2 255 = ap (λ (v : Vmac). slice_index v.0 0) h in cc);
+  bvlc = lit< tt;
+  npdu = lit< tt;
+}
 
 b_is_node : IsNode b.own
-b_is_node = record { address = refl; device = refl; reserved = λ h. (let k : ◌≡◌ {A = ℕ} 2 0 = ap (λ (v : Vmac). slice_index v.0 0) h in cc); broadcast = λ h. (let k : ◌≡◌ {A = ℕ} 2 255 = ap (λ (v : Vmac). slice_index v.0 0) h in cc); bvlc = lit< tt; npdu = lit< tt }
+b_is_node = record {
+  address = refl;
+  device = refl;
+  reserved = λ h. (let k : ◌≡◌ {A = ℕ} 2 0 = ap (λ (v : Vmac). slice_index v.0 0) h in cc);
+  broadcast = λ h. (let k : ◌≡◌ {A = ℕ} 2 255 = ap (λ (v : Vmac). slice_index v.0 0) h in cc);
+  bvlc = lit< tt;
+  npdu = lit< tt;
+}
 
 c_is_node : IsNode c.own
-c_is_node = record { address = refl; device = refl; reserved = λ h. (let k : ◌≡◌ {A = ℕ} 2 0 = ap (λ (v : Vmac). slice_index v.0 0) h in cc); broadcast = λ h. (let k : ◌≡◌ {A = ℕ} 2 255 = ap (λ (v : Vmac). slice_index v.0 0) h in cc); bvlc = lit< tt; npdu = lit< tt }
+c_is_node = record {
+  address = refl;
+  device = refl;
+  reserved = λ h. (let k : ◌≡◌ {A = ℕ} 2 0 = ap (λ (v : Vmac). slice_index v.0 0) h in cc);
+  broadcast = λ h. (let k : ◌≡◌ {A = ℕ} 2 255 = ap (λ (v : Vmac). slice_index v.0 0) h in cc);
+  bvlc = lit< tt;
+  npdu = lit< tt;
+}
 
 -- ---- their runs
 

@@ -1,4 +1,5 @@
 -- The node of the worked hub's session, by computation: what its log says of its link is what the session's talk says at the other end.
+-- No clause needs it: worked examples.
 use Rattle.std.proofs.Common.{◌≡◌, true, false, List, [], ◌∷◌, Some, refl}
 use Rattle.std.specs.Prelude.{codes, slice_get}
 use Rattle.bsc_octets.specs.Identities.{identity_of}

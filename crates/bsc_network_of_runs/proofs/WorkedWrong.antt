@@ -1,5 +1,6 @@
 -- What is no network of runs, written out: a link that swaps two messages, a hub at which a stranger forwards, and a node that invents an
 -- NPDU. Each breaks one premise of the theorem.
+-- No clause needs it: worked examples.
 use Rattle.std.proofs.Common.{◌≡◌, ℕ, true, false, Bool, List, [], ◌∷◌, ◌++◌, Option, Some, None, refl, ap, sym, subst, ◌∙◌}
 use Rattle.std.specs.Prelude.{slice_get}
 use Rattle.std.specs.List.{list_all}
@@ -82,7 +83,8 @@ talk_is h same = subst (λ (g : HubRun). (s : SessionOf g.about g.history) → s
 -- No wires link the node to the session: `carry` fails.
 a_swap_is_not_carried : (other : OtherEnd) → other (of_node 0 link) ≡ Some (of_session the_name) → AreLinks swapped_network other → ⊥
 a_swap_is_not_carried other leads links =
-    by (subst (λ (o : Option LinkEnd). Carries swapped_network o (record { given = given_over (log node_a swapped) link; put = put_over (log node_a swapped) link })) leads (links.carry (of_node 0 link) _ swapped_traffic))
+    by (subst (λ (o : Option LinkEnd). Carries swapped_network o (record { given = given_over (log node_a swapped) link; put = put_over (log node_a swapped) link })) leads
+    (links.carry (of_node 0 link) _ swapped_traffic))
   where
     by : Carries swapped_network (Some (of_session the_name)) (record { given = given_over (log node_a swapped) link; put = put_over (log node_a swapped) link }) → ⊥
     by (u, (h, s, at_hub, at_session, is), first) =

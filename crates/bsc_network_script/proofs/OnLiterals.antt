@@ -1,4 +1,5 @@
 -- What an answer unfolds to compute this crate's definitions on a script that is written out.
+-- It serves bsc_network_script_laws.
 use Rattle.std.specs.Prelude.{⊤}
 use Rattle.std.specs.Fmt.{digits}
 use Rattle.std.specs.Str.{is_utf8, chars}

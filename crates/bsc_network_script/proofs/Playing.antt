@@ -1,4 +1,5 @@
 -- How worked scripts are written: their lines, and what they come to.
+-- It serves bsc_network_script_laws.
 use Rattle.std.specs.Prelude.{ℕ, List, ◌++◌, flat_map, codes, Some, None}
 use Rattle.bsc_player.specs.Playing.{Played}
 use Rattle.bsc_network_script.specs.Scripts.{simulate_of}

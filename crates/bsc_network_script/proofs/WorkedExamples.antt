@@ -1,4 +1,5 @@
 -- The scripts of networks in `examples/`, line by line, with what each writes, by computation.
+-- No clause needs it: worked examples.
 use Rattle.std.proofs.Common.{◌≡◌, [], ◌∷◌, codes, refl}
 use Rattle.uuid.proofs.OnLiterals.{uuid_on_literals}
 use Rattle.bsc_network_script.proofs.OnLiterals.{simulation_on_literals}

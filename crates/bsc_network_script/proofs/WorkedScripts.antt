@@ -1,4 +1,5 @@
 -- Lines that are taken and lines that are refused, by computation.
+-- No clause needs it: worked examples.
 use Rattle.std.proofs.Common.{◌≡◌, List, ℕ, [], ◌∷◌, ◌++◌, codes, refl, Option, Some, None}
 use Rattle.std.specs.Prelude.{map}
 use Rattle.uuid.proofs.OnLiterals.{uuid_on_literals}

@@ -1,4 +1,5 @@
 -- Hubs and nodes are added before the first step.
+-- It serves the clauses of `a_script_delivers_what_was_sent` and `a_script_is_of_its_steps`.
 use Rattle.std.proofs.Common.{◌≡◌, ℕ, true, ◌&&◌, nat_eq, nat_lt, nat_le, List, [], ◌∷◌, length, refl, arith}
 use Rattle.std.proofs.lemmas.Bool.{and_parts, eqb-true}
 use Rattle.bsc_octets.specs.declared.identity.Identity.{Identity}

@@ -1,4 +1,5 @@
 -- What a network delivers is what its steps deliver, one after the other.
+-- It serves the clauses of `a_script_delivers_what_was_sent` and `a_script_is_of_its_steps`.
 use Rattle.std.proofs.Common.{◌≡◌, List, [], ◌∷◌, ◌++◌, fold, ap, sym, ◌∙◌, append-nil, append_assoc}
 use Rattle.bsc_network.specs.declared.timed_step.TimedStep.{TimedStep}
 use Rattle.bsc_network.specs.declared.world_delivery.WorldDelivery.{WorldDelivery}

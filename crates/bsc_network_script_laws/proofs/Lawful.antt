@@ -1,4 +1,5 @@
 -- The hubs, nodes and steps of a script are a course, and deliver what was sent.
+-- It serves the clauses of `a_script_delivers_what_was_sent`.
 use Rattle.std.proofs.Common.{◌≡◌, ◌≤◌, ℕ, ◌+◌, Bool, true, false, not, ◌&&◌, nat_eq, nat_lt, nat_le, List, [], ◌∷◌, ◌++◌, length, Option, Some, None, IfSome, refl, sym, subst, arith}
 use Rattle.std.specs.Prelude.{is_some}
 use Rattle.std.proofs.lemmas.Bool.{and_parts, leb-true, ltb-true}
@@ -26,7 +27,8 @@ use Rattle.bsc_network_script.specs.declared.line.Line.{Line}
 use Rattle.bsc_network_script.specs.declared.line.Line.TheVariants.{Nothing, Hub, Node, At, Step}
 use Rattle.bsc_network_script.specs.Lines.{line_of}
 use Rattle.bsc_network_script.specs.Written.{step_text}
-use Rattle.bsc_network_script.specs.Scripts.{State, at_clock, has_content, hub_limits, line_after, may_add_hub, may_add_node, may_be_hub, may_set, may_try, most_steps, names_one, nothing_yet, quietly, said_after, simulation}
+use Rattle.bsc_network_script.specs.Scripts.{State, at_clock, has_content, hub_limits, line_after, may_add_hub, may_add_node, may_be_hub, may_set, may_try, most_steps, names_one}
+use Rattle.bsc_network_script.specs.Scripts.{nothing_yet, quietly, said_after, simulation}
 use Rattle.bsc_network_script_laws.specs.Laws.{DeliversItsSends, state_after, state_of}
 use Rattle.bsc_network_script_laws.proofs.Measured.{IsMeasured, IsSaid, line_said}
 use Rattle.bsc_network_script_laws.proofs.Stepping.{piece_said, state_after-more, state_after-none, where_some}
@@ -58,7 +60,16 @@ is_node who m e =
     }
 
 is_hub : (who : Identity) → IsHub (record { hub = who; limits = hub_limits })
-is_hub who = record { some_rows = omega arith; few_rows = omega arith; some_room = omega arith; little_room = omega arith; some_calls = omega arith; few_calls = omega arith; some_callers = omega arith; few_callers = omega arith }
+is_hub who = record {
+  some_rows = omega arith;
+  few_rows = omega arith;
+  some_room = omega arith;
+  little_room = omega arith;
+  some_calls = omega arith;
+  few_calls = omega arith;
+  some_callers = omega arith;
+  few_callers = omega arith;
+}
 
 hub_may : (s : State) (who : Identity) → IsMeasured who → may_add_hub (length s.steps) (length (hubs s.added)) who ≡ true → MayAdd s.added (hub (record { hub = who; limits = hub_limits }))
 hub_may s who m e =
@@ -144,7 +155,8 @@ lawful_after : (pieces : List (List ℕ)) (s : State) (before : ℕ) → IsLawfu
 lawful_after [] s before h = h
 lawful_after (piece ∷ pieces) s before h = by (λ u b. lawful_after pieces u b) (piece_after simulation s before piece) refl
   where
-    by : ((u : State) (b : ℕ) → IsLawful u → IsLawful (state_after u b pieces)) → (a : Option (LineOutcome State)) → piece_after simulation s before piece ≡ a → IsLawful (state_after s before (piece ∷ pieces))
+    by : ((u : State) (b : ℕ) → IsLawful u → IsLawful (state_after u b pieces)) → (a : Option (LineOutcome State)) → piece_after simulation s before piece ≡ a
+        → IsLawful (state_after s before (piece ∷ pieces))
     by next None is = subst IsLawful (sym (state_after-none s before piece pieces is)) h
     by next (Some out) is =
         subst IsLawful (sym (state_after-more s before piece pieces out is))

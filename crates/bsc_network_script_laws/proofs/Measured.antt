@@ -1,5 +1,7 @@
 -- What a line says has its octets: a VMAC six, a device sixteen, and maximum lengths are below 2^16.
-use Rattle.std.proofs.Common.{◌≡◌, ◌<◌, ◌/◌, ◌%◌, ℕ, Bool, true, false, if◌then◌else◌, List, [], ◌∷◌, length, option_map, codes, Option, Some, None, IfSome, Result, Ok, Err, inl, inr, refl, sym, ◌∙◌, arith}
+-- It serves the clauses of `a_script_delivers_what_was_sent`.
+use Rattle.std.proofs.Common.{◌≡◌, ◌<◌, ◌/◌, ◌%◌, ℕ, Bool, true, false, if◌then◌else◌, List, [], ◌∷◌, length, option_map, codes, Option, Some, None, IfSome, Result, Ok, Err, inl}
+use Rattle.std.proofs.Common.{inr, refl, sym, ◌∙◌, arith}
 use Rattle.std.specs.Prelude.{◌^◌, ◌&&◌, ◌==◌, ⊤, drop, slice_index, take}
 use Rattle.std.specs.List.{list_all}
 use Rattle.std.proofs.lemmas.Bool.{cases_eq}
@@ -8,7 +10,8 @@ use Rattle.hex.specs.Hex.{IsBytes, decode_sized}
 use Rattle.hex.proofs.HexLemmas.{decode_pairs-ok, decode_sized-odd, decode_sized-other}
 use Rattle.hex.proofs.Pairs.{decode_sized-pairs}
 use Rattle.byteorder.specs.Numbers.{big_from-lt}
-use Rattle.uuid.specs.Text.{by_index, byte_of_digits, close_brace, digits_of, has_hyphens, has_urn_prefix, is_hex_digit, open_brace, parsed, parsed_braced, parsed_hyphenated, parsed_simple, parsed_urn}
+use Rattle.uuid.specs.Text.{by_index, byte_of_digits, close_brace, digits_of, has_hyphens, has_urn_prefix, is_hex_digit, open_brace, parsed, parsed_braced, parsed_hyphenated}
+use Rattle.uuid.specs.Text.{parsed_simple, parsed_urn}
 use Rattle.uuid.proofs.TextLemmas.{by_index_length}
 use Rattle.bsc_octets.specs.declared.vmac.Vmac.{Vmac}
 use Rattle.bsc_octets.specs.declared.device_id.DeviceId.{DeviceId}
@@ -24,7 +27,8 @@ use Rattle.bsc_network.specs.declared.world_step.WorldStep.TheVariants.{Node as 
 use Rattle.bsc_network.specs.Courses.{IsWhole}
 use Rattle.bsc_network_script.specs.declared.line.Line.{Line}
 use Rattle.bsc_network_script.specs.declared.line.Line.TheVariants.{Nothing, Hub, Node, At, Step}
-use Rattle.bsc_network_script.specs.Lines.{at_line, bare_event_of, comes_to, direct_of_words, event_of, hub_line, index_of, line_of, line_of_words, node_line, node_of, node_step, only_index, only_vmac, other_event, send_event, send_to, step_of}
+use Rattle.bsc_network_script.specs.Lines.{at_line, bare_event_of, comes_to, direct_of_words, event_of, hub_line, index_of, line_of, line_of_words, node_line, node_of, node_step}
+use Rattle.bsc_network_script.specs.Lines.{only_index, only_vmac, other_event, send_event, send_to, step_of}
 
 -- one of two
 either : {A : Type 0} (P : A → Type 0) (b : Bool) (x y : Option A) → IfSome x P → IfSome y P → IfSome (if b then x else y) P

@@ -1,4 +1,5 @@
 -- The text of a script, by its steps.
+-- It serves the clauses of `a_script_delivers_what_was_sent` and `a_script_is_of_its_steps`.
 use Rattle.std.proofs.Common.{◌≡◌, ℕ, ◌+◌, Bool, true, false, cond, not, ◌&&◌, List, [], ◌∷◌, ◌++◌, length, fold, Option, Some, None, refl, ap, sym, ◌∙◌, subst, append-nil, append_assoc}
 use Rattle.std.specs.Prelude.{is_some}
 use Rattle.bsc_text.specs.Lines.{pieces_of, line_in, is_too_big}
@@ -23,11 +24,13 @@ abbrev text_of : State → List ℕ
 text_of s = steps_text (new_world s.added) s.steps
 
 -- one step more
-steps_text-more : (w : World) (steps : List TimedStep) (t : TimedStep) → steps_text w (steps ++ t ∷ []) ≡ steps_text w steps ++ step_text (dialled_at (fold makes w steps) t) (delivered_at (fold makes w steps) t)
+steps_text-more : (w : World) (steps : List TimedStep) (t : TimedStep)
+    → steps_text w (steps ++ t ∷ []) ≡ steps_text w steps ++ step_text (dialled_at (fold makes w steps) t) (delivered_at (fold makes w steps) t)
 steps_text-more w [] t = append-nil (step_text (dialled_at w t) (delivered_at w t))
 steps_text-more w (u ∷ steps) t =
     ap (λ x. step_text (dialled_at w u) (delivered_at w u) ++ x) (steps_text-more (makes w u) steps t)
-    ∙ sym (append_assoc (step_text (dialled_at w u) (delivered_at w u)) (steps_text (makes w u) steps) (step_text (dialled_at (fold makes (makes w u) steps) t) (delivered_at (fold makes (makes w u) steps) t)))
+    ∙ sym (append_assoc (step_text (dialled_at w u) (delivered_at w u)) (steps_text (makes w u) steps)
+    (step_text (dialled_at (fold makes (makes w u) steps) t) (delivered_at (fold makes (makes w u) steps) t)))
 
 -- what may be accepted where it is
 pub where_some : (may : Bool) (q out : LineOutcome State) → where_may may q ≡ Some out → (may ≡ true) × (q ≡ out)
@@ -80,7 +83,8 @@ within_size true step out e = cc
 within_size false step out e = e
 
 -- what stands after a line that is accepted, and those behind it
-pub state_after-more : (s : State) (before : ℕ) (piece : List ℕ) (pieces : List (List ℕ)) (out : LineOutcome State) → piece_after simulation s before piece ≡ Some out → state_after s before (piece ∷ pieces) ≡ state_after out.state (before + length piece) pieces
+pub state_after-more : (s : State) (before : ℕ) (piece : List ℕ) (pieces : List (List ℕ)) (out : LineOutcome State) → piece_after simulation s before piece ≡ Some out
+    → state_after s before (piece ∷ pieces) ≡ state_after out.state (before + length piece) pieces
 state_after-more s before piece pieces out e =
     ap (λ (o : Option (LineOutcome State)). elim o as (λ v. State) [ None ↦ s | Some x ↦ state_after x.state (before + length piece) pieces ]) e
 

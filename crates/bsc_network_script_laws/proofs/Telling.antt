@@ -1,4 +1,5 @@
 -- What is written of a script tells what was sent.
+-- It serves bsc_commands and bsc_simulate.
 use Rattle.std.proofs.Common.{◌≡◌, ℕ, Bool, true, false, if◌then◌else◌, List, [], ◌∷◌, ◌++◌, take, drop, Option, Some, None, refl, ap, sym, ◌∙◌, append-nil, append_assoc}
 use Rattle.std.proofs.lemmas.List.{take-append-drop}
 use Rattle.bsc_text.specs.Lines.{has_no_lf}

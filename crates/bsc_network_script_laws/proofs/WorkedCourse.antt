@@ -1,5 +1,6 @@
 -- A course of 367 steps, written as the lines of its script, by computation. What it writes is what `bsc_world` wrote when its
 -- code ran it.
+-- No clause needs it: worked examples.
 use Rattle.std.proofs.Common.{◌≡◌, ℕ, List, [], ◌∷◌, codes, refl, Option, Some}
 use Rattle.uuid.proofs.OnLiterals.{uuid_on_literals}
 use Rattle.bsc_network.specs.declared.timed_step.TimedStep.{TimedStep}

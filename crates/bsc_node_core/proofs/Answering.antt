@@ -1,4 +1,5 @@
 -- What a node keeps and its address resolution go on standing for its log, where a question is answered.
+-- It serves clauses of functions of `failing`, `receiving` and `requesting`.
 use Rattle.std.proofs.Common.{◌≡◌, ℕ, Bool, true, false, ◌&&◌, List, [], ◌∷◌, ◌++◌, Option, refl, ap, sym, ◌∙◌, subst}
 use Rattle.std.specs.Prelude.{◌==◌}
 use Rattle.std.proofs.lemmas.List.{append-nil}
@@ -33,7 +34,8 @@ learns-by a msg id uris from L c i e =
     ap (λ n. if_so (awaits a n from L) (in_order (resolution_sees (Answered n from uris) ∷ tells (Uris from uris) ∷ [])) nothing L) i
     ∙ ap (λ (x : Bool). if_so x (in_order (resolution_sees (Answered id from uris) ∷ tells (Uris from uris) ∷ [])) nothing L) (sym e)
 
-same-resolve : (r : Resolve) (wait : ℕ) (calls : List ResolveCall) (call : ResolveCall) (c d : Bool) → c ≡ d → ResolveStands r wait (if_it_counts c calls call) → ResolveStands r wait (if_it_counts d calls call)
+same-resolve : (r : Resolve) (wait : ℕ) (calls : List ResolveCall) (call : ResolveCall) (c d : Bool) → c ≡ d → ResolveStands r wait (if_it_counts c calls call)
+    → ResolveStands r wait (if_it_counts d calls call)
 same-resolve r wait calls call c d e h = subst (λ (x : Bool). ResolveStands r wait (if_it_counts x calls call)) e h
 
 -- whether the question is under way, by what is kept
@@ -41,7 +43,8 @@ abbrev pub Awaits : Resolve → ℕ → Vmac → Bool → Type 0
 Awaits r id from c = (wait : ℕ) (calls : List ResolveCall) → ResolveStands r wait calls → c ≡ awaits_answer wait calls id from
 
 -- The answer counts.
-pub both-learnt : (b : Base) (out later : List Action) (s : State) (r r' : Resolve) (L : Log) (msg : Message) (id : ℕ) (uris copied : List ℕ) (from : Vmac) (c : Bool) → msg.id ≡ id → copied ≡ uris → later ≡ out ++ Tell (Uris from copied) ∷ []
+pub both-learnt : (b : Base) (out later : List Action) (s : State) (r r' : Resolve) (L : Log) (msg : Message) (id : ℕ) (uris copied : List ℕ) (from : Vmac) (c : Bool) → msg.id ≡ id
+    → copied ≡ uris → later ≡ out ++ Tell (Uris from copied) ∷ []
     → AnswersAnswer r r' id from uris c → Awaits r id from true → BothStand b out s r L → BothStand b later s r' (L ++ learns b.made msg uris from L)
 both-learnt b out later s r r' L msg id uris copied from c i same le answers asked h =
     let a = answers b.made.limits.times.connect_wait (resolve_calls L) h.resolution in
@@ -61,12 +64,14 @@ both-not-learnt b out s r L msg id uris from i asked h =
 
 -- ---- a question is dropped
 
-dropped-by : (b : Base) (out : List Action) (s : State) (r r' : Resolve) (L : Log) (id : ℕ) (v : Vmac) (c : Bool) → ResolveStands r' b.made.limits.times.connect_wait (if_it_counts c (resolve_calls L) (Refused id v))
+dropped-by : (b : Base) (out : List Action) (s : State) (r r' : Resolve) (L : Log) (id : ℕ) (v : Vmac) (c : Bool)
+    → ResolveStands r' b.made.limits.times.connect_wait (if_it_counts c (resolve_calls L) (Refused id v))
     → BothStand b out s r L → BothStand b out s r' (L ++ if_so c (resolution_sees (Refused id v)) nothing L)
 dropped-by b out s r r' L id v true g h = both-told b out s r r' L (Refused id v) g h
 dropped-by b out s r r' L id v false g h = both-at-rest b out s r' L [] refl (record { state = h.state; resolution = g })
 
-drops-by : (a : Made) (function id : ℕ) (v : Vmac) (L : Log) (f c : Bool) → (function == 0x02) ≡ f → c ≡ awaits a id v L → drops_question a function id v L ≡ if_so (f && c) (resolution_sees (Refused id v)) nothing L
+drops-by : (a : Made) (function id : ℕ) (v : Vmac) (L : Log) (f c : Bool) → (function == 0x02) ≡ f → c ≡ awaits a id v L
+    → drops_question a function id v L ≡ if_so (f && c) (resolution_sees (Refused id v)) nothing L
 drops-by a function id v L f c e i =
     ap (λ (x : Bool). if_so (x && awaits a id v L) (resolution_sees (Refused id v)) nothing L) e
     ∙ ap (λ (x : Bool). if_so (f && x) (resolution_sees (Refused id v)) nothing L) (sym i)
@@ -79,7 +84,8 @@ both-dropped b out s r r' L function id v c f answers h =
     subst (λ ms. BothStand b out s r' (L ++ ms)) (sym (drops-by b.made function id v L true c (ap (λ (x : ℕ). x == 0x02) f) a.0)) (dropped-by b out s r r' L id v c a.1 h)
 
 -- It is told, and then the question is dropped.
-pub both-refused-by : (b : Base) (out later : List Action) (s : State) (r r' : Resolve) (L : Log) (name : LinkName) (msg : Message) (from : Option Vmac) (id function code : ℕ) → msg.id ≡ id → sender name msg L ≡ from
+pub both-refused-by : (b : Base) (out later : List Action) (s : State) (r r' : Resolve) (L : Log) (name : LinkName) (msg : Message) (from : Option Vmac) (id function code : ℕ) → msg.id ≡ id
+    → sender name msg L ≡ from
     → later ≡ out ++ Tell (Nak from function code) ∷ []
     → ((b : Base) (out : List Action) (s : State) (M : Log) → BothStand b out s r M → BothStand b out s r' (M ++ with_some from (drops_question b.made function id) nothing M))
     → BothStand b out s r L → BothStand b later s r' (L ++ takes_nak b.made name msg function code L)

@@ -1,4 +1,5 @@
 -- What a node keeps and its address resolution go on standing for its log, where URIs are asked for.
+-- It serves clauses of most source files here.
 use Rattle.std.proofs.Common.{◌≡◌, ℕ, ◌+◌, Bool, false, cond, List, [], ◌∷◌, ◌++◌, length, take, Option, Some, None, refl, ap, sym, ◌∙◌, subst, arith, length-append, append_assoc}
 use Rattle.std.specs.Prelude.{◌-◌, ◌%◌, min}
 use Rattle.std.proofs.Math.Seq.{take-append_seam}
@@ -49,7 +50,8 @@ two-in-order P L first second h =
 -- ---- both
 
 -- Where nothing happened to address resolution, both stand once the state does.
-pub both-still : (b : Base) (out : List Action) (s : State) (r : Resolve) (L M : Log) → ResolveStands r b.made.limits.times.connect_wait (resolve_calls L) → Stands (asked_by L b) out s M → BothStand b out s r M
+pub both-still : (b : Base) (out : List Action) (s : State) (r : Resolve) (L M : Log) → ResolveStands r b.made.limits.times.connect_wait (resolve_calls L) → Stands (asked_by L b) out s M
+    → BothStand b out s r M
 both-still b out s r L M g h = record {
   state = subst (λ (calls : List ResolveCall). Stands (record b { asked = calls }) out s M) (sym h.asked) h;
   resolution = subst (λ (calls : List ResolveCall). ResolveStands r b.made.limits.times.connect_wait calls) (sym h.asked) g;
@@ -84,7 +86,8 @@ both-told b out s r r' L call stands both =
     }
 
 -- The user is told something, and nothing happens to address resolution.
-pub both-word : (b : Base) (out later : List Action) (s : State) (r r' : Resolve) (L : Log) (lines : List Line) (note : Note) → later ≡ out ++ Tell note ∷ [] → lines ≡ did (Tell note) ∷ [] → IsUnchanged r r'
+pub both-word : (b : Base) (out later : List Action) (s : State) (r r' : Resolve) (L : Log) (lines : List Line) (note : Note) → later ≡ out ++ Tell note ∷ [] → lines ≡ did (Tell note) ∷ []
+    → IsUnchanged r r'
     → BothStand b out s r L → BothStand b later s r' (L ++ lines)
 both-word b out later s r r' L lines note o l u h =
     both-still b later s r' L (L ++ lines) (u b.made.limits.times.connect_wait (resolve_calls L) h.resolution) (told-stands (asked_by L b) out later s L lines note o l h.state)
@@ -102,7 +105,8 @@ question-numbered : (n : ℕ) (dest : Option Vmac) → is_response (function_in 
 question-numbered n dest = refl
 
 -- A question is put.
-pub both-asked : (b : Base) (out later : List Action) (s : State) (r r' : Resolve) (L : Log) (w : Way) (v : Vmac) (o : List ℕ) (t : ℕ) → b.now ≡ t → way v L ≡ Some w → o ≡ message_octets s.next w.dest AddressResolution
+pub both-asked : (b : Base) (out later : List Action) (s : State) (r r' : Resolve) (L : Log) (w : Way) (v : Vmac) (o : List ℕ) (t : ℕ) → b.now ≡ t → way v L ≡ Some w
+    → o ≡ message_octets s.next w.dest AddressResolution
     → later ≡ out ++ Put w.link o ∷ [] → IsAsked r r' t s.next v → BothStand b out s r L → BothStand b later (record s { next = (s.next + 1) % 65536 }) r' (L ++ resolves b.made v L)
 both-asked b out later s r r' L w v o t n p oe le asked h =
     let a = asked b.made.limits.times.connect_wait (resolve_calls L) h.resolution in
@@ -114,7 +118,8 @@ both-asked b out later s r r' L w v o t n p oe le asked h =
     let quiet : is_response (function_in o) ≡ false = ap (λ (x : List ℕ). is_response (function_in x)) oe ∙ question-numbered s.next w.dest in
     let put : Stands (asked_by L b) later after (L ++ lines) =
     subst (λ os. Stands (asked_by L b) os after (L ++ lines)) (sym le)
-    (subst (λ (c : Bool). Stands (asked_by L b) (out ++ Put w.link o ∷ []) (record s { next = cond c s.next ((s.next + 1) % 65536) }) (L ++ lines)) quiet (put-stands (asked_by L b) out s L w.link o h.state)) in
+    (subst (λ (c : Bool). Stands (asked_by L b) (out ++ Put w.link o ∷ []) (record s { next = cond c s.next ((s.next + 1) % 65536) }) (L ++ lines)) quiet
+    (put-stands (asked_by L b) out s L w.link o h.state)) in
     let both : BothStand b later after r (L ++ lines) = both-still b later after r L (L ++ lines) h.resolution put in
     let known : ResolveStands r' b.made.limits.times.connect_wait (resolve_calls (L ++ lines) ++ call ∷ []) =
     subst (λ (calls : List ResolveCall). ResolveStands r' b.made.limits.times.connect_wait (calls ++ call ∷ [])) (sym put.asked)
@@ -131,18 +136,21 @@ before-newest xs ys x e =
     ap (λ k. take k ys) n ∙ ap (take (length xs)) e ∙ take-append_seam xs (x ∷ [])
 
 -- A question is refused, and why is told in place of putting it.
-both-refused : (b : Base) (out put back later : List Action) (s : State) (r r' : Resolve) (L : Log) (v : Vmac) (newest : Action) (note : Note) → put ≡ out ++ newest ∷ [] → back ≡ take (length put - 1) put → later ≡ back ++ Tell note ∷ []
+both-refused : (b : Base) (out put back later : List Action) (s : State) (r r' : Resolve) (L : Log) (v : Vmac) (newest : Action) (note : Note) → put ≡ out ++ newest ∷ []
+    → back ≡ take (length put - 1) put → later ≡ back ++ Tell note ∷ []
     → resolves b.made v L ≡ did (Tell note) ∷ [] → IsUnchanged r r' → BothStand b out s r L → BothStand b later s r' (L ++ resolves b.made v L)
 both-refused b out put back later s r r' L v newest note pe be le lines u h =
     both-word b out later s r r' L (resolves b.made v L) note (le ∙ ap (λ os. os ++ Tell note ∷ []) (be ∙ before-newest out put newest pe)) lines u h
 
-pub both-full : (b : Base) (out put back later : List Action) (s : State) (r r' : Resolve) (L : Log) (w : Way) (v : Vmac) (newest : Action) (held : ℕ) → put ≡ out ++ newest ∷ [] → back ≡ take (length put - 1) put → later ≡ back ++ Tell AsksFull ∷ []
+pub both-full : (b : Base) (out put back later : List Action) (s : State) (r r' : Resolve) (L : Log) (w : Way) (v : Vmac) (newest : Action) (held : ℕ) → put ≡ out ++ newest ∷ []
+    → back ≡ take (length put - 1) put → later ≡ back ++ Tell AsksFull ∷ []
     → way v L ≡ Some w → IsAskRefused r v (Full held) → IsUnchanged r r' → BothStand b out s r L → BothStand b later s r' (L ++ resolves b.made v L)
 both-full b out put back later s r r' L w v newest held pe be le p refused u h =
     both-refused b out put back later s r r' L v newest AsksFull pe be le
     (resolves-by b.made v L w (Some (Full held)) p (refused b.made.limits.times.connect_wait (resolve_calls L) h.resolution)) u h
 
-pub both-pending : (b : Base) (out put back later : List Action) (s : State) (r r' : Resolve) (L : Log) (w : Way) (v : Vmac) (newest : Action) (id : ℕ) → put ≡ out ++ newest ∷ [] → back ≡ take (length put - 1) put → later ≡ back ++ Tell (AskPending v) ∷ []
+pub both-pending : (b : Base) (out put back later : List Action) (s : State) (r r' : Resolve) (L : Log) (w : Way) (v : Vmac) (newest : Action) (id : ℕ) → put ≡ out ++ newest ∷ []
+    → back ≡ take (length put - 1) put → later ≡ back ++ Tell (AskPending v) ∷ []
     → way v L ≡ Some w → IsAskRefused r v (Pending id) → IsUnchanged r r' → BothStand b out s r L → BothStand b later s r' (L ++ resolves b.made v L)
 both-pending b out put back later s r r' L w v newest id pe be le p refused u h =
     both-refused b out put back later s r r' L v newest (AskPending v) pe be le

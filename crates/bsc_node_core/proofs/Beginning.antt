@@ -1,4 +1,5 @@
 -- What a node keeps goes on standing for its log, where a link begins.
+-- It serves the clauses of `dial` and `take`.
 use Rattle.std.proofs.Common.{◌≡◌, ℕ, ◌+◌, Bool, true, false, not, cond, ◌&&◌, ◌||◌, List, [], ◌∷◌, ◌++◌, Option, Some, None, unwrap_or, refl, ap, sym, ◌∙◌, subst, arith}
 use Rattle.std.specs.Prelude.{min, count_by, filter_map, is_some}
 use Rattle.std.specs.List.{list_any}
@@ -25,7 +26,8 @@ use Rattle.bsc_node.specs.declared.link_name.LinkName.TheVariants.{Hub, Direct}
 use Rattle.bsc_node.specs.declared.action.Action.{Action}
 use Rattle.bsc_node.specs.declared.action.Action.TheVariants.{Dial, Take}
 use Rattle.bsc_node.specs.Logs.{Made, did, Log, now, own, is_numbered}
-use Rattle.bsc_node.specs.Links.{beginning_of, begins, begins_by, is_over_by, same_link, life, is_there, was_taken, start, initiating_event, accepting_event, initiating_events, accepting_events, who_accepted, who_asked, peer}
+use Rattle.bsc_node.specs.Links.{beginning_of, begins, begins_by, is_over_by, same_link, life, is_there, was_taken, start, initiating_event, accepting_event, initiating_events}
+use Rattle.bsc_node.specs.Links.{accepting_events, who_accepted, who_asked, peer}
 use Rattle.bsc_node.specs.Hubs.{waits, hub_events, is_dropped}
 use Rattle.bsc_node.specs.Meeting.{is_hub}
 use Rattle.bsc_node.specs.Ways.{is_claim_of, tries}
@@ -84,10 +86,12 @@ module _ (a : Made) (busy : Option LinkName) (L : Log) (name : LinkName) (taken 
   peer-begun : peer (L ++ did action ∷ []) name ≡ None
   peer-begun = ap (λ es. option_or (who_accepted es) (who_asked (accepting_events (L ++ did action ∷ []) name))) initiating-begun ∙ ap who_asked accepting-begun
 
-  pub dialled-begun : (m : Initiating) → taken ≡ false → InitiatingStands m (record { own = own a L; times = a.limits.times; at = now L }) [] → MachineStands a busy (L ++ did action ∷ []) name (Dialled m)
+  pub dialled-begun : (m : Initiating) → taken ≡ false → InitiatingStands m (record { own = own a L; times = a.limits.times; at = now L }) []
+      → MachineStands a busy (L ++ did action ∷ []) name (Dialled m)
   dialled-begun m f h = record { dialled = taken-begun ∙ f; alone = accepting-begun; machine = rw (start-begun, initiating-begun) h; accept = rw initiating-begun (refl, λ id. refl) }
 
-  pub taken-machine-begun : (m : Accepting) → is_hub name ≡ false → taken ≡ true → AcceptingStands m (record { own = own a L; times = a.limits.times; at = now L }) [] → MachineStands a busy (L ++ did action ∷ []) name (Taken m)
+  pub taken-machine-begun : (m : Accepting) → is_hub name ≡ false → taken ≡ true → AcceptingStands m (record { own = own a L; times = a.limits.times; at = now L }) []
+      → MachineStands a busy (L ++ did action ∷ []) name (Taken m)
   taken-machine-begun m s f h = record { slot = s; taken = taken-begun ∙ f; alone = initiating-begun; machine = rw (start-begun, accepting-begun) h; ask = rw accepting-begun refl }
 
   link-begun : (machine : Machine) (l : Kept) → says_there machine ≡ true → MachineStands a busy (L ++ did action ∷ []) name machine → LinkStands a busy (L ++ did action ∷ []) name (begun machine l)
@@ -103,10 +107,12 @@ module _ (a : Made) (busy : Option LinkName) (L : Log) (name : LinkName) (taken 
           let is = same_link-is name other e in
           let l : link_at new other ≡ begun machine (link_at old name) = sets other ∙ ap (λ b. cond (b && is_name name) (begun machine (link_at old name)) (link_at old other)) e
           ∙ ap (λ b. cond b (begun machine (link_at old name)) (link_at old other)) (ap is_name is ∙ n) in
-          subst (λ (x : Kept). LinkStands a busy (L ++ did action ∷ []) other x) (sym l) (subst (λ (x : LinkName). LinkStands a busy (L ++ did action ∷ []) x (begun machine (link_at old name))) is (link-begun machine (link_at old name) t m))
+          subst (λ (x : Kept). LinkStands a busy (L ++ did action ∷ []) other x) (sym l)
+          (subst (λ (x : LinkName). LinkStands a busy (L ++ did action ∷ []) x (begun machine (link_at old name))) is (link-begun machine (link_at old name) t m))
       by false e =
           let l : link_at new other ≡ link_at old other = sets other ∙ ap (λ b. cond (b && is_name name) (begun machine (link_at old name)) (link_at old other)) e in
-          subst (λ (x : Kept). LinkStands a busy (L ++ did action ∷ []) other x) (sym l) (link-kept a busy L (did action) other (link_at old other) (there name other taken action g e) (g.over other) refl refl (h other n))
+          subst (λ (x : Kept). LinkStands a busy (L ++ did action ∷ []) other x) (sym l)
+          (link-kept a busy L (did action) other (link_at old other) (there name other taken action g e) (g.over other) refl refl (h other n))
 
   -- ---- how often a slot began
 
@@ -119,7 +125,8 @@ module _ (a : Made) (busy : Option LinkName) (L : Log) (name : LinkName) (taken 
       ∙ count-kept (begins (Direct k)) (since (is_claim_of k) L) (did action) (ap is_some (there name (Direct k) taken action g e))
       ∙ omega arith
 
-  pub tries-begun : (old new : Links) (machine : Machine) (k : ℕ) → is_name (Direct k) ≡ true → Sets old new name (begun machine (link_at old name)) → min (tries k L) 18446744073709551615 ≡ (link_at old (Direct k)).tries
+  pub tries-begun : (old new : Links) (machine : Machine) (k : ℕ) → is_name (Direct k) ≡ true → Sets old new name (begun machine (link_at old name))
+      → min (tries k L) 18446744073709551615 ≡ (link_at old (Direct k)).tries
       → min (tries k (L ++ did action ∷ [])) 18446744073709551615 ≡ (link_at new (Direct k)).tries
   tries-begun old new machine k n sets h = by (same_link name (Direct k)) refl
     where
@@ -143,7 +150,8 @@ module _ (a : Made) (busy : Option LinkName) (L : Log) (name : LinkName) (taken 
   dropped-begun d h = by (same_link name (Hub Failover)) refl
     where
       by : (b : Bool) → same_link name (Hub Failover) ≡ b → is_dropped Failover (L ++ did action ∷ []) ≡ cond b false d
-      by true e = ap (λ ys. list_any (λ (x : HubEvent). Sides.connects Primary x.event) (hub_events ys)) (since-now (begins (Hub Failover)) L (did action) (ap is_some (g.begins (Hub Failover) ∙ ap (λ (b : Bool). cond b (Some taken) None) e)))
+      by true e = ap (λ ys. list_any (λ (x : HubEvent). Sides.connects Primary x.event) (hub_events ys))
+          (since-now (begins (Hub Failover)) L (did action) (ap is_some (g.begins (Hub Failover) ∙ ap (λ (b : Bool). cond b (Some taken) None) e)))
       by false e = dropped-kept L (did action) (ap is_some (there name (Hub Failover) taken action g e)) refl ∙ h
 
 -- A link begins.
@@ -182,8 +190,10 @@ takes : (name : LinkName) → Begins name true (Take name)
 takes name = record { begins = λ other. refl; over = λ other. refl; number = refl }
 
 -- A URI is dialled.
-pub dial-stands : (b : Base) (out later : List Action) (s : State) (L : Log) (times : Times) (at : ℕ) (name : LinkName) (uri : List ℕ) (m : Initiating) (ls : Links) (d : Bool) → later ≡ out ++ Dial name uri ∷ []
-    → Sets s.links ls name (begun (Dialled m) (link_at s.links name)) → Touches s.links ls name → d ≡ cond (same_link name (Hub Failover)) false s.dropped → InitiatingStands m (record { own = s.own; times = times; at = at }) []
+pub dial-stands : (b : Base) (out later : List Action) (s : State) (L : Log) (times : Times) (at : ℕ) (name : LinkName) (uri : List ℕ) (m : Initiating) (ls : Links) (d : Bool)
+    → later ≡ out ++ Dial name uri ∷ []
+    → Sets s.links ls name (begun (Dialled m) (link_at s.links name)) → Touches s.links ls name → d ≡ cond (same_link name (Hub Failover)) false s.dropped
+    → InitiatingStands m (record { own = s.own; times = times; at = at }) []
     → b.made.limits.times ≡ times → b.now ≡ at → Stands b out s L → Stands b later (record s { links = ls; dropped = d }) (L ++ did (Dial name uri) ∷ [])
 dial-stands b out later s L times at name uri m ls d o sets touches de stands t n h =
     subst (λ os. Stands b os (record s { links = ls; dropped = d }) (L ++ did (Dial name uri) ∷ [])) (sym o)

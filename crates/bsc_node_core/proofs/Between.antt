@@ -1,4 +1,5 @@
 -- A node stands for its log from one event to the next.
+-- It serves the clauses of `event`.
 use Rattle.std.proofs.Common.{◌≡◌, ℕ, zero, suc, ◌+◌, ◌<◌, ◌≤◌, Bool, true, false, not, ◌&&◌, ◌||◌, List, [], ◌∷◌, ◌++◌, length, Some, None, refl, ap, sym, ◌∙◌, subst, arith, append_assoc}
 use Rattle.std.specs.Prelude.{◌==◌, IsTrue, nat_lt, filter_map, is_some}
 use Rattle.std.specs.List.{list_any, range_with_len}
@@ -181,10 +182,14 @@ answered old new a L t ev out start caught mid same spared is catches comes goes
     )
 
 -- Where memory was wanting, a node stands for what it stood.
-pub unchanged : (old new : Node) (a : Made) (L : Log) (caught failed : State) → new.limits ≡ old.limits → (Agrees old.spare old.state → KeepsSame old.state caught) → KeepsSame caught new.spare → new.spare.links.touched ≡ Many
+pub unchanged : (old new : Node) (a : Made) (L : Log) (caught failed : State) → new.limits ≡ old.limits → (Agrees old.spare old.state → KeepsSame old.state caught)
+    → KeepsSame caught new.spare → new.spare.links.touched ≡ Many
     → new.spare.direct_touched ≡ true → (Agrees failed new.spare → KeepsSame new.spare new.state) → IsUnchangedResolve old.resolve new.resolve → NodeStands old a L → NodeStands new a L
 unchanged old new a L caught failed same catches marks many all brings resolve h = record {
   limits = h.limits ∙ sym same;
-  kept = record { state = restored-stands (at_rest a L old.spare) [] old.state caught new.spare failed new.state L catches marks many all brings h.kept.state; resolution = resolve a.limits.times.connect_wait (resolve_calls L) h.kept.resolution };
+  kept = record {
+    state = restored-stands (at_rest a L old.spare) [] old.state caught new.spare failed new.state L catches marks many all brings h.kept.state;
+    resolution = resolve a.limits.times.connect_wait (resolve_calls L) h.kept.resolution;
+  };
   begun = h.begun;
 }

@@ -1,4 +1,5 @@
 -- Rules that ask something of the log first.
+-- It serves clauses of functions of `failing`, `following`, `links` and `state`.
 use Rattle.std.proofs.Common.{◌≡◌, Bool, true, false, [], ◌++◌, Option, Some, None, sym, subst}
 use Rattle.std.proofs.lemmas.List.{append-nil}
 use Rattle.bsc_node.specs.Logs.{Log, Rule, nothing, if_so, either, when, with_some, where_found}

@@ -1,4 +1,5 @@
 -- What a machine's newest step puts and closes is carried out, and then no link is busy any more.
+-- It serves clauses of functions of `state`.
 use Rattle.std.proofs.Common.{◌≡◌, ℕ, true, false, List, [], ◌∷◌, ◌++◌, None, ap, sym, ◌∙◌, subst, append_assoc}
 use Rattle.std.proofs.lemmas.Bool.{false≢true}
 use Rattle.std.proofs.lemmas.List.{append-nil}

@@ -1,4 +1,5 @@
 -- What a node keeps goes on standing for its log, where a slot is claimed or released.
+-- It serves clauses of functions of `requesting` and `state`.
 use Rattle.std.proofs.Common.{◌≡◌, ℕ, ◌<◌, Bool, true, false, cond, ◌&&◌, List, [], ◌∷◌, ◌++◌, Option, Some, None, refl, ap, sym, ◌∙◌, subst}
 use Rattle.std.specs.Prelude.{◌==◌, min, count_by}
 use Rattle.std.proofs.lemmas.Bool.{lt-ltb, eqb-true}
@@ -38,7 +39,8 @@ use Rattle.bsc_node.proofs.Common.{hub_events-kept, resolve_calls-kept, same_lin
 same_kept : (b : Base) (L : Log) (name : LinkName) (l : Kept) → LinkStands b.made b.busy L name l → LinkStands b.made b.busy L name (claimed l)
 same_kept b L name l h = record { there = h.there; machine = h.machine; peer = h.peer }
 
-links-claimed : (b : Base) (old new : Links) (L : Log) (k : ℕ) (v : Option Vmac) → Sets old new (Direct k) (claimed (link_at old (Direct k))) → ((other : LinkName) → is_name other ≡ true → LinkStands b.made b.busy L other (link_at old other))
+links-claimed : (b : Base) (old new : Links) (L : Log) (k : ℕ) (v : Option Vmac) → Sets old new (Direct k) (claimed (link_at old (Direct k)))
+    → ((other : LinkName) → is_name other ≡ true → LinkStands b.made b.busy L other (link_at old other))
     → (other : LinkName) → is_name other ≡ true → LinkStands b.made b.busy (L ++ slot (Claim k v) ∷ []) other (link_at new other)
 links-claimed b old new L k v sets h other n = by (same_link (Direct k) other) refl
   where
@@ -55,7 +57,8 @@ links-claimed b old new L k v sets h other n = by (same_link (Direct k) other) r
         let l : link_at new other ≡ link_at old other = sets other ∙ ap (λ c. cond (c && is_name (Direct k)) (claimed (link_at old (Direct k))) (link_at old other)) e in
         subst (λ (x : Kept). LinkStands b.made b.busy (L ++ slot (Claim k v) ∷ []) other x) (sym l) kept
 
-tries-claimed : (old new : Links) (L : Log) (k j : ℕ) (v : Option Vmac) → j < SLOTS → Sets old new (Direct k) (claimed (link_at old (Direct k))) → min (tries j L) 18446744073709551615 ≡ (link_at old (Direct j)).tries
+tries-claimed : (old new : Links) (L : Log) (k j : ℕ) (v : Option Vmac) → j < SLOTS → Sets old new (Direct k) (claimed (link_at old (Direct k)))
+    → min (tries j L) 18446744073709551615 ≡ (link_at old (Direct j)).tries
     → min (tries j (L ++ slot (Claim k v) ∷ [])) 18446744073709551615 ≡ (link_at new (Direct j)).tries
 tries-claimed old new L k j v w sets h = by (k == j) refl
   where
@@ -98,14 +101,16 @@ pub arrives-in-vain : (L : Log) → free_slot L ≡ None → arrives L ≡ did (
 arrives-in-vain L h = rw h refl
 
 -- A slot is claimed, and the link is taken.
-pub arrival-stands : (b : Base) (out : List Action) (s : State) (L : Log) (k : ℕ) → free_slot L ≡ Some k → Stands b out s ((L ++ slot (Claim k None) ∷ []) ++ did (Take (Direct k)) ∷ []) → Stands b out s (L ++ arrives L)
+pub arrival-stands : (b : Base) (out : List Action) (s : State) (L : Log) (k : ℕ) → free_slot L ≡ Some k → Stands b out s ((L ++ slot (Claim k None) ∷ []) ++ did (Take (Direct k)) ∷ [])
+    → Stands b out s (L ++ arrives L)
 arrival-stands b out s L k f h =
     subst (λ ms. Stands b out s (L ++ ms)) (sym (arrives-at L k f))
     (first-then b out s L (slots_see (Claim k None)) (does (Take (Direct k)) ∷ [])
     (first-then b out s (L ++ slot (Claim k None) ∷ []) (does (Take (Direct k))) []
     (none-left b out s ((L ++ slot (Claim k None) ∷ []) ++ did (Take (Direct k)) ∷ []) h)))
 
-pub refusal-stands : (b : Base) (out later : List Action) (s : State) (L : Log) → free_slot L ≡ None → later ≡ out ++ Refuse (closing 1008 TableFull) ∷ [] → Stands b out s L → Stands b later s (L ++ arrives L)
+pub refusal-stands : (b : Base) (out later : List Action) (s : State) (L : Log) → free_slot L ≡ None → later ≡ out ++ Refuse (closing 1008 TableFull) ∷ [] → Stands b out s L
+    → Stands b later s (L ++ arrives L)
 refusal-stands b out later s L f o h =
     subst (λ ms. Stands b later s (L ++ ms)) (sym (arrives-in-vain L f))
     (subst (λ os. Stands b os s (L ++ did (Refuse (closing 1008 TableFull)) ∷ [])) (sym o)

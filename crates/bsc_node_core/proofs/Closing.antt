@@ -1,4 +1,5 @@
 -- What a node keeps goes on standing for its log, where a link is closed or begins.
+-- It serves the clauses of `close` and `record_event`.
 use Rattle.std.proofs.Common.{◌≡◌, ℕ, Bool, true, false, cond, ◌&&◌, List, [], ◌∷◌, ◌++◌, Option, refl, ap, sym, ◌∙◌, subst}
 use Rattle.std.specs.Prelude.{min}
 use Rattle.bsc_connector.specs.Standing.{ConnectorStands}
@@ -44,7 +45,8 @@ closed-link a busy old new L name closing sets h other n = by (same_link name ot
         })
     by false e =
         let l : link_at new other ≡ link_at old other = sets other ∙ ap (λ b. cond (b && is_name name) (with_machine Gone (link_at old name)) (link_at old other)) e in
-        subst (λ (x : Kept). LinkStands a busy (L ++ did (Close name closing) ∷ []) other x) (sym l) (link-kept a busy L (did (Close name closing)) other (link_at old other) refl e refl refl (h other n))
+        subst (λ (x : Kept). LinkStands a busy (L ++ did (Close name closing) ∷ []) other x) (sym l)
+        (link-kept a busy L (did (Close name closing)) other (link_at old other) refl e refl refl (h other n))
 
 pub tries-closed : (old new : Links) (name : LinkName) (k : ℕ) → Sets old new name (with_machine Gone (link_at old name)) → (link_at new (Direct k)).tries ≡ (link_at old (Direct k)).tries
 tries-closed old new name k sets = by (same_link name (Direct k)) (is_name name) refl

@@ -1,4 +1,5 @@
 -- What a node keeps goes on standing for its log, where an event comes.
+-- It serves the clauses of `record_event`.
 use Rattle.std.proofs.Common.{◌≡◌, ℕ, ◌+◌, Bool, true, false, cond, ◌&&◌, List, [], ◌∷◌, ◌++◌, Option, Some, None, unwrap_or, refl, ap, sym, ◌∙◌, subst, arith}
 use Rattle.std.specs.Prelude.{min, count_by}
 use Rattle.std.specs.List.{list_any}
@@ -75,7 +76,8 @@ record SaysNothing (e : TimedEvent) : Type 0 where
   message : hub_message_of (came e) ≡ None
 
 -- An event that says nothing of them, by which no link is over.
-quiet-came : (b : Base) (out : List Action) (s : State) (L : Log) (e : TimedEvent) → SaysNothing e → ((name : LinkName) → is_over_by name (came e) ≡ false) → Stands b out s L → Stands (at_time e.now b) out s (L ++ came e ∷ [])
+quiet-came : (b : Base) (out : List Action) (s : State) (L : Log) (e : TimedEvent) → SaysNothing e → ((name : LinkName) → is_over_by name (came e) ≡ false) → Stands b out s L
+    → Stands (at_time e.now b) out s (L ++ came e ∷ [])
 quiet-came b out s L e q over h =
     came-stands b out s L e s.own s.finishing s.renewals s.newest_hub s.links (own-kept b.made L (came e) q.renewal ∙ h.own) (finishing-kept L (came e) q.finish ∙ h.finishing)
     (ap (λ k. min RENEWALS k) (renewals-kept L (came e) q.counted refl) ∙ h.renewals) (refusing-kept L (came e) q.message ∙ h.newest_hub)
@@ -102,7 +104,8 @@ links-over a busy old new L name e over sets h other n = by (same_link name othe
         let l : link_at new other ≡ link_at old other = sets other ∙ ap (λ c. cond (c && is_name name) (with_machine Gone (link_at old name)) (link_at old other)) x in
         subst (λ (y : Kept). LinkStands a busy (L ++ came e ∷ []) other y) (sym l) (link-kept a busy L (came e) other (link_at old other) refl (over other ∙ x) refl refl (h other n))
 
-over-came : (b : Base) (out : List Action) (s : State) (L : Log) (e : TimedEvent) (name : LinkName) (ls : Links) → SaysNothing e → ((other : LinkName) → is_over_by other (came e) ≡ same_link name other)
+over-came : (b : Base) (out : List Action) (s : State) (L : Log) (e : TimedEvent) (name : LinkName) (ls : Links) → SaysNothing e
+    → ((other : LinkName) → is_over_by other (came e) ≡ same_link name other)
     → Sets s.links ls name (with_machine Gone (link_at s.links name)) → Touches s.links ls name → Stands b out s L → Stands (at_time e.now b) out (record s { links = ls }) (L ++ came e ∷ [])
 over-came b out s L e name ls q over sets touches h =
     came-stands b out s L e s.own s.finishing s.renewals s.newest_hub ls (own-kept b.made L (came e) q.renewal ∙ h.own) (finishing-kept L (came e) q.finish ∙ h.finishing)
@@ -114,22 +117,26 @@ over-came b out s L e name ls q over sets touches h =
 abbrev at : ℕ → NodeEvent → TimedEvent
 at t ev = record { now = t; event = ev }
 
-silent : (t : ℕ) (ev : NodeEvent) → renewal_of (came (at t ev)) ≡ None → is_finish (came (at t ev)) ≡ false → is_renewal (came (at t ev)) ≡ false → hub_message_of (came (at t ev)) ≡ None → SaysNothing (at t ev)
+silent : (t : ℕ) (ev : NodeEvent) → renewal_of (came (at t ev)) ≡ None → is_finish (came (at t ev)) ≡ false → is_renewal (came (at t ev)) ≡ false → hub_message_of (came (at t ev)) ≡ None
+    → SaysNothing (at t ev)
 silent t ev r f c m = record { renewal = r; finish = f; counted = c; message = m }
 
 -- what is left to show at an event that is known
 abbrev Stands_at : Base → List Action → State → Log → ℕ → NodeEvent → Type 0
 Stands_at b out s L t ev = Stands (at_time t b) out s (L ++ came (at t ev) ∷ [])
 
-pub lost-came : (b : Base) (out : List Action) (s : State) (L : Log) (t : ℕ) (ev : NodeEvent) (name : LinkName) (ls : Links) → ev ≡ Lost name → Sets s.links ls name (with_machine Gone (link_at s.links name))
+pub lost-came : (b : Base) (out : List Action) (s : State) (L : Log) (t : ℕ) (ev : NodeEvent) (name : LinkName) (ls : Links) → ev ≡ Lost name
+    → Sets s.links ls name (with_machine Gone (link_at s.links name))
     → Touches s.links ls name → Stands b out s L → Stands (at_time t b) out (record s { links = ls }) (L ++ came (at t ev) ∷ [])
 lost-came b out s L t ev name ls is sets touches h =
     subst (Stands_at b out (record s { links = ls }) L t) (sym is) (over-came b out s L (at t (Lost name)) name ls (silent t (Lost name) refl refl refl refl) (λ other. refl) sets touches h)
 
-pub failed-came : (b : Base) (out : List Action) (s : State) (L : Log) (t : ℕ) (ev : NodeEvent) (name : LinkName) (ls : Links) → ev ≡ DialFailed name → Sets s.links ls name (with_machine Gone (link_at s.links name))
+pub failed-came : (b : Base) (out : List Action) (s : State) (L : Log) (t : ℕ) (ev : NodeEvent) (name : LinkName) (ls : Links) → ev ≡ DialFailed name
+    → Sets s.links ls name (with_machine Gone (link_at s.links name))
     → Touches s.links ls name → Stands b out s L → Stands (at_time t b) out (record s { links = ls }) (L ++ came (at t ev) ∷ [])
 failed-came b out s L t ev name ls is sets touches h =
-    subst (Stands_at b out (record s { links = ls }) L t) (sym is) (over-came b out s L (at t (DialFailed name)) name ls (silent t (DialFailed name) refl refl refl refl) (λ other. refl) sets touches h)
+    subst (Stands_at b out (record s { links = ls }) L t) (sym is) (over-came b out s L (at t (DialFailed name)) name ls (silent t (DialFailed name) refl refl refl refl)
+    (λ other. refl) sets touches h)
 
 pub hub-came : (b : Base) (out : List Action) (s : State) (L : Log) (t : ℕ) (ev : NodeEvent) (side : Side) (o : List ℕ) → ev ≡ Came (Hub side) o → Stands b out s L
     → Stands (at_time t b) out (record s { newest_hub = Some side }) (L ++ came (at t ev) ∷ [])
@@ -140,11 +147,13 @@ hub-came b out s L t ev side o is h =
     (ap (λ k. min RENEWALS k) (renewals-kept L (came e) refl refl) ∙ h.renewals) (newest_of-more hub_message_of L (came e))
     (λ name n. link-kept b.made b.busy L (came e) name (link_at s.links name) refl refl refl refl (h.links name n)) (λ k. refl) h.spare h)
 
-pub slot-came : (b : Base) (out : List Action) (s : State) (L : Log) (t : ℕ) (ev : NodeEvent) (k : ℕ) (o : List ℕ) → ev ≡ Came (Direct k) o → Stands b out s L → Stands (at_time t b) out s (L ++ came (at t ev) ∷ [])
+pub slot-came : (b : Base) (out : List Action) (s : State) (L : Log) (t : ℕ) (ev : NodeEvent) (k : ℕ) (o : List ℕ) → ev ≡ Came (Direct k) o → Stands b out s L
+    → Stands (at_time t b) out s (L ++ came (at t ev) ∷ [])
 slot-came b out s L t ev k o is h =
     subst (Stands_at b out s L t) (sym is) (quiet-came b out s L (at t (Came (Direct k) o)) (silent t (Came (Direct k) o) refl refl refl refl) (λ name. refl) h)
 
-pub finish-came : (b : Base) (out : List Action) (s : State) (L : Log) (t : ℕ) (ev : NodeEvent) → ev ≡ Finish → Stands b out s L → Stands (at_time t b) out (record s { finishing = true }) (L ++ came (at t ev) ∷ [])
+pub finish-came : (b : Base) (out : List Action) (s : State) (L : Log) (t : ℕ) (ev : NodeEvent) → ev ≡ Finish → Stands b out s L
+    → Stands (at_time t b) out (record s { finishing = true }) (L ++ came (at t ev) ∷ [])
 finish-came b out s L t ev is h =
     let e = at t Finish in
     subst (Stands_at b out (record s { finishing = true }) L t) (sym is)
@@ -156,7 +165,8 @@ one_renewal : (L : Log) (t w : ℕ) → renewals (L ++ came (at t (Random w)) �
 one_renewal L t w =
     ap (count_by is_renewal) (since-kept is_accept_of_hub L (came (at t (Random w))) refl) ∙ count-one_more is_renewal (since is_accept_of_hub L) (came (at t (Random w))) refl
 
-pub word-came : (b : Base) (out : List Action) (s : State) (L : Log) (t : ℕ) (ev : NodeEvent) (w r : ℕ) (v : Vmac) → ev ≡ Random w → v ≡ random48_of w → min RENEWALS (s.renewals + 1) ≡ r → Stands b out s L
+pub word-came : (b : Base) (out : List Action) (s : State) (L : Log) (t : ℕ) (ev : NodeEvent) (w r : ℕ) (v : Vmac) → ev ≡ Random w → v ≡ random48_of w → min RENEWALS (s.renewals + 1) ≡ r
+    → Stands b out s L
     → Stands (at_time t b) out (record s { own = record s.own { vmac = v }; renewals = r }) (L ++ came (at t ev) ∷ [])
 word-came b out s L t ev w r v is ve re h =
     let e = at t (Random w) in
@@ -170,7 +180,8 @@ word-came b out s L t ev w r v is ve re h =
     (omega (arith, one, k, re)) (refusing-kept L (came e) refl ∙ h.newest_hub)
     (λ name n. link-kept b.made b.busy L (came e) name (link_at s.links name) refl refl refl refl (h.links name n)) (λ j. refl) h.spare h)
 
-pub other-came : (b : Base) (out : List Action) (s : State) (L : Log) (t : ℕ) (ev : NodeEvent) → ((name : LinkName) → ev ≡ DialFailed name → ⊥) → ((name : LinkName) (o : List ℕ) → ev ≡ Came name o → ⊥)
+pub other-came : (b : Base) (out : List Action) (s : State) (L : Log) (t : ℕ) (ev : NodeEvent) → ((name : LinkName) → ev ≡ DialFailed name → ⊥)
+    → ((name : LinkName) (o : List ℕ) → ev ≡ Came name o → ⊥)
     → ((name : LinkName) → ev ≡ Lost name → ⊥) → (ev ≡ Finish → ⊥) → ((w : ℕ) → ev ≡ Random w → ⊥) → Stands b out s L → Stands (at_time t b) out s (L ++ came (at t ev) ∷ [])
 other-came b out s L t (DialFailed name) f c l n r h = absurd (f name refl)
 other-came b out s L t (Came name o) f c l n r h = absurd (c name o refl)

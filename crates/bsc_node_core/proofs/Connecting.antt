@@ -1,4 +1,5 @@
 -- What a node keeps and its address resolution go on standing for its log, where a direct connection is wanted.
+-- It serves clauses of functions of `failing` and `requesting`.
 use Rattle.std.proofs.Common.{◌≡◌, ℕ, List, [], ◌∷◌, ◌++◌, Option, Some, None, refl, ap, sym, ◌∙◌, subst}
 use Rattle.std.specs.Prelude.{filter, slice_get}
 use Rattle.bsc_octets.specs.declared.vmac.Vmac.{Vmac}
@@ -56,23 +57,28 @@ directs-free v L text o e l f = directs-learnt v L (Some text) e l ∙ ap (λ (x
 pub both-there : (b : Base) (out : List Action) (s : State) (r : Resolve) (L : Log) (v : Vmac) (k : ℕ) → established v L ≡ Some k → BothStand b out s r L → BothStand b out s r (L ++ directs v L)
 both-there b out s r L v k e h = both-at-rest b out s r L (directs v L) (directs-established v L (Some k) e) h
 
-pub both-unlearnt : (b : Base) (out later : List Action) (s : State) (r : Resolve) (L : Log) (v : Vmac) → established v L ≡ None → learnt v L ≡ None → later ≡ out ++ Tell (NoUris v) ∷ [] → BothStand b out s r L
+pub both-unlearnt : (b : Base) (out later : List Action) (s : State) (r : Resolve) (L : Log) (v : Vmac) → established v L ≡ None → learnt v L ≡ None → later ≡ out ++ Tell (NoUris v) ∷ []
+    → BothStand b out s r L
     → BothStand b later s r (L ++ directs v L)
 both-unlearnt b out later s r L v e l o h = both-word b out later s r r L (directs v L) (NoUris v) o (directs-learnt v L None e l) (λ wait calls stands. stands) h
 
-pub both-slots_full : (b : Base) (out later : List Action) (s : State) (r : Resolve) (L : Log) (v : Vmac) (text : List ℕ) → established v L ≡ None → learnt v L ≡ Some text → free_slot L ≡ None → later ≡ out ++ Tell SlotsFull ∷ []
+pub both-slots_full : (b : Base) (out later : List Action) (s : State) (r : Resolve) (L : Log) (v : Vmac) (text : List ℕ) → established v L ≡ None → learnt v L ≡ Some text
+    → free_slot L ≡ None → later ≡ out ++ Tell SlotsFull ∷ []
     → BothStand b out s r L → BothStand b later s r (L ++ directs v L)
 both-slots_full b out later s r L v text e l f o h = both-word b out later s r r L (directs v L) SlotsFull o (directs-free v L text None e l f) (λ wait calls stands. stands) h
 
-pub both-undialled : (b : Base) (out later : List Action) (s : State) (r : Resolve) (L : Log) (v : Vmac) (text : List ℕ) (k : ℕ) → established v L ≡ None → learnt v L ≡ Some text → free_slot L ≡ Some k → None ≡ slice_get (uris_to_dial v L) 0
+pub both-undialled : (b : Base) (out later : List Action) (s : State) (r : Resolve) (L : Log) (v : Vmac) (text : List ℕ) (k : ℕ) → established v L ≡ None → learnt v L ≡ Some text
+    → free_slot L ≡ Some k → None ≡ slice_get (uris_to_dial v L) 0
     → later ≡ out ++ Tell (NoDirect v) ∷ [] → BothStand b out s r L → BothStand b later s r (L ++ directs v L)
 both-undialled b out later s r L v text k e l f u o h =
     both-word b out later s r r L (directs v L) (NoDirect v) o
     (directs-free v L text (Some k) e l f ∙ ap (λ uris. dials_first v k uris L) (no_first (uris_to_dial v L) (sym u))) (λ wait calls stands. stands) h
 
 -- A slot is claimed, and the first URI is dialled.
-pub both-dialled : (b : Base) (out later : List Action) (s s' : State) (r : Resolve) (L : Log) (v : Vmac) (text uri : List ℕ) (k : ℕ) → established v L ≡ None → learnt v L ≡ Some text → free_slot L ≡ Some k
-    → Some uri ≡ slice_get (uris_to_dial v L) 0 → Stands (asked_by L b) later s' ((L ++ slot (Claim k (Some v)) ∷ []) ++ did (Dial (Direct k) uri) ∷ []) → BothStand b out s r L → BothStand b later s' r (L ++ directs v L)
+pub both-dialled : (b : Base) (out later : List Action) (s s' : State) (r : Resolve) (L : Log) (v : Vmac) (text uri : List ℕ) (k : ℕ) → established v L ≡ None → learnt v L ≡ Some text
+    → free_slot L ≡ Some k
+    → Some uri ≡ slice_get (uris_to_dial v L) 0 → Stands (asked_by L b) later s' ((L ++ slot (Claim k (Some v)) ∷ []) ++ did (Dial (Direct k) uri) ∷ []) → BothStand b out s r L
+    → BothStand b later s' r (L ++ directs v L)
 both-dialled b out later s s' r L v text uri k e l f u stands h =
     both-still b later s' r L (L ++ directs v L) h.resolution
     (subst (λ ms. Stands (asked_by L b) later s' (L ++ ms)) (sym (directs-free v L text (Some k) e l f ∙ first-dialled v k (uris_to_dial v L) uri L (sym u)))

@@ -1,4 +1,5 @@
 -- A copy of what a node keeps stands for the same log.
+-- It serves clauses of functions of `links`, `node` and `state`.
 use Rattle.std.proofs.Common.{◌≡◌, Bool, true, false, cond, ◌&&◌, List, refl, ap, sym, ◌∙◌, subst}
 use Rattle.std.specs.Prelude.{slice_get}
 use Rattle.std.proofs.lemmas.Bool.{false≢true, lt-ltb}
@@ -42,7 +43,8 @@ caught-one old new links touched is sets agrees name n = by (same_link touched n
     by : (b : Bool) → same_link touched name ≡ b → link_at new name ≡ link_at links name
     by true e =
         let one = same_link-is touched name e in
-        sets name ∙ ap (λ (b : Bool). cond (b && is_name touched) (link_at links touched) (link_at old name)) e ∙ ap (λ (b : Bool). cond b (link_at links touched) (link_at old name)) (ap is_name one ∙ n) ∙ ap (link_at links) one
+        sets name ∙ ap (λ (b : Bool). cond (b && is_name touched) (link_at links touched) (link_at old name)) e
+        ∙ ap (λ (b : Bool). cond b (link_at links touched) (link_at old name)) (ap is_name one ∙ n) ∙ ap (link_at links) one
     by false e = sets name ∙ ap (λ (b : Bool). cond (b && is_name touched) (link_at links touched) (link_at old name)) e ∙ sym (agrees name n (ap (λ (t : Touched). is_touched t name) is ∙ e))
 
 -- ---- states
@@ -94,13 +96,15 @@ keeps-then s t u i j = record {
 -- ---- between two events
 
 -- Where an event begins the spare was brought up to the state, whatever of that counts as touched.
-pub begun-stands : (b : Base) (out : List Action) (s start spare : State) (L : Log) → KeepsSame s start → (Agrees b.spare s → KeepsSame s spare) → Stands b out s L → Stands (record b { spare = spare }) out start L
+pub begun-stands : (b : Base) (out : List Action) (s start spare : State) (L : Log) → KeepsSame s start → (Agrees b.spare s → KeepsSame s spare) → Stands b out s L
+    → Stands (record b { spare = spare }) out start L
 begun-stands b out s start spare L same catches h =
     let i = catches h.spare in
     copied-stands b out s start spare L same (λ name n t. same.links name n ∙ sym (i.links name n), λ t. same.direct ∙ sym i.direct) h
 
 -- Where memory was wanting, all of the spare is taken back, whatever the state was.
-pub restored-stands : (b : Base) (out : List Action) (s caught marked failed new : State) (L : Log) → (Agrees b.spare s → KeepsSame s caught) → KeepsSame caught marked → marked.links.touched ≡ Many → marked.direct_touched ≡ true
+pub restored-stands : (b : Base) (out : List Action) (s caught marked failed new : State) (L : Log) → (Agrees b.spare s → KeepsSame s caught) → KeepsSame caught marked
+    → marked.links.touched ≡ Many → marked.direct_touched ≡ true
     → (Agrees failed marked → KeepsSame marked new) → Stands b out s L → Stands (record b { spare = marked }) out new L
 restored-stands b out s caught marked failed new L catches same many all brings h =
     let none : Agrees failed marked = (λ name n t. absurd (false≢true (sym t ∙ ap (λ (x : Touched). is_touched x name) many)), λ t. absurd (false≢true (sym t ∙ all))) in

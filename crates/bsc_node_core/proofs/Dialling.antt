@@ -1,4 +1,5 @@
 -- The failover is dialled, and the link of a dropped one closed first.
+-- It serves the clauses of `close_there` and `dial_failover`.
 use Rattle.std.proofs.Common.{◌≡◌, ℕ, Bool, true, false, List, [], ◌∷◌, ◌++◌, ap, sym, subst}
 use Rattle.std.proofs.lemmas.List.{append-nil}
 use Rattle.bsc_accept.specs.Steps.{normal}
@@ -24,7 +25,8 @@ pub not-there : (b : Base) (out : List Action) (s : State) (name : LinkName) (L 
 not-there b out s name L h st =
     subst (λ ms. Stands b out s (L ++ ms)) (sym (ap (λ (c : Bool). if_so c (does (Close name normal)) nothing L) h)) (subst (λ M. Stands b out s M) (sym (append-nil L)) st)
 
-pub failover-dialled : (b : Base) (out : List Action) (s : State) (L : Log) (uri given : List ℕ) → uri ≡ given → Stands b out s ((L ++ closes_there (Hub Failover) L) ++ did (Dial (Hub Failover) uri) ∷ [])
+pub failover-dialled : (b : Base) (out : List Action) (s : State) (L : Log) (uri given : List ℕ) → uri ≡ given
+    → Stands b out s ((L ++ closes_there (Hub Failover) L) ++ did (Dial (Hub Failover) uri) ∷ [])
     → Stands b out s (L ++ in_order (closes_there (Hub Failover) ∷ does (Dial (Hub Failover) given) ∷ []) L)
 failover-dialled b out s L uri given u h =
     first-then b out s L (closes_there (Hub Failover)) (does (Dial (Hub Failover) given) ∷ [])

@@ -1,4 +1,5 @@
 -- One rule for each slot, in the order of their numbers, and one for each link.
+-- It serves clauses of functions of `state`.
 use Rattle.std.proofs.Common.{◌≡◌, ℕ, ◌+◌, List, [], ◌∷◌, ◌++◌, map, ap, sym, ◌∙◌, subst, arith, append_assoc}
 use Rattle.std.specs.List.{range_with_len}
 use Rattle.std.proofs.lemmas.List.FromFn.{map-range_with_len_more}
@@ -34,7 +35,8 @@ one-then P L rule rules h = subst P (append_assoc L (rule L) (in_order rules (L 
 
 -- A rule for each link: the hubs', and then those of the slots.
 pub names-then : (P : Log → Type 0) (f : LinkName → Rule) (L : Log)
-    → P (((L ++ f (Hub Primary) L) ++ f (Hub Failover) (L ++ f (Hub Primary) L)) ++ in_order (map (λ (k : ℕ). f (Direct k)) slots) ((L ++ f (Hub Primary) L) ++ f (Hub Failover) (L ++ f (Hub Primary) L)))
+    → P (((L ++ f (Hub Primary) L) ++ f (Hub Failover) (L ++ f (Hub Primary) L))
+    ++ in_order (map (λ (k : ℕ). f (Direct k)) slots) ((L ++ f (Hub Primary) L) ++ f (Hub Failover) (L ++ f (Hub Primary) L)))
     → P (L ++ in_order (map f names) L)
 names-then P f L h =
     let D : ℕ → LinkName = λ k. Direct k in

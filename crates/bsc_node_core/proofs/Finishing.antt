@@ -1,4 +1,5 @@
 -- What a node keeps goes on standing for its log, where the machine of a link is told to finish.
+-- It serves the clauses of `finish_machine`.
 use Rattle.std.proofs.Common.{◌≡◌, true, List, [], ◌∷◌, ◌++◌, None, ap, sym, ◌∙◌}
 use Rattle.bsc_node.specs.declared.link_name.LinkName.{LinkName}
 use Rattle.bsc_node.specs.declared.action.Action.{Action}
@@ -16,7 +17,8 @@ use Rattle.bsc_node_core.proofs.Carrying.{carried}
 use Rattle.bsc_node_core.proofs.Together.{first-then, none-left}
 
 -- The machine of a link that is there was told to finish, and what it puts and closes is carried out.
-pub finished : (b : Base) (out later : List Action) (s s' : State) (L : Log) (name : LinkName) (u : Outcome) → b.busy ≡ None → is_name name ≡ true → is_there name L ≡ true → HasTold b out s (L ++ finishes name L) name u
+pub finished : (b : Base) (out later : List Action) (s s' : State) (L : Log) (name : LinkName) (u : Outcome) → b.busy ≡ None → is_name name ≡ true → is_there name L ≡ true
+    → HasTold b out s (L ++ finishes name L) name u
     → ((c : Base) → Stands c out s (L ++ finishes name L) → Stands c later s' ((L ++ finishes name L) ++ carries_out_by name u (L ++ finishes name L)))
     → Stands b later s' (L ++ finishes_machine b.made name L)
 finished b out later s s' L name u none n t told g =

@@ -1,4 +1,5 @@
 -- What a node keeps and its address resolution go on standing for its log, where an event that is known is followed.
+-- It serves the clauses of `follow` and `pass_time`.
 use Rattle.std.proofs.Common.{◌≡◌, ℕ, List, [], ◌∷◌, ◌++◌, ap, sym, ◌∙◌, subst, append_assoc}
 use Rattle.std.specs.Prelude.{map}
 use Rattle.bsc_connector.specs.declared.event.ConnectorEvent.TheVariants.{Tick as ConnectorTick}
@@ -18,7 +19,8 @@ use Rattle.bsc_node_core.specs.Standing.{Base, Stands}
 use Rattle.bsc_node_core.specs.Resolving.{asked_by, BothStand}
 use Rattle.bsc_node_core.proofs.Asking.{both-still, both-told}
 
-pub by-both : (b : Base) (out : List Action) (s : State) (r : Resolve) (L : Log) (ev known : NodeEvent) → ev ≡ known → BothStand b out s r (L ++ follows b.made known L) → BothStand b out s r (L ++ follows b.made ev L)
+pub by-both : (b : Base) (out : List Action) (s : State) (r : Resolve) (L : Log) (ev known : NodeEvent) → ev ≡ known → BothStand b out s r (L ++ follows b.made known L)
+    → BothStand b out s r (L ++ follows b.made ev L)
 by-both b out s r L ev known is h = subst (λ (e : NodeEvent). BothStand b out s r (L ++ follows b.made e L)) (sym is) h
 
 -- Where nothing happened to address resolution.
@@ -43,7 +45,8 @@ abbrev before_resolution : Made → List Rule
 before_resolution a = map (ticks_link a) names ++ tells_connector a ConnectorTick ∷ []
 
 pub timed : (b : Base) (out : List Action) (s : State) (r r' : Resolve) (L : Log) (t : ℕ) → b.now ≡ t → ResolveStands r b.made.limits.times.connect_wait (resolve_calls L)
-    → Stands (asked_by L b) out s (L ++ in_order (map (ticks_link b.made) names ++ tells_connector b.made ConnectorTick ∷ []) L) → StandsOn r r' (ResolveTick t) → BothStand b out s r' (L ++ time_passes b.made L)
+    → Stands (asked_by L b) out s (L ++ in_order (map (ticks_link b.made) names ++ tells_connector b.made ConnectorTick ∷ []) L) → StandsOn r r' (ResolveTick t)
+    → BothStand b out s r' (L ++ time_passes b.made L)
 timed b out s r r' L t n g h on =
     let rules = before_resolution b.made in
     let M = L ++ in_order rules L in

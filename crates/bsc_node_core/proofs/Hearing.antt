@@ -1,4 +1,5 @@
 -- What a link's machine may be told, and by which lines it is told so.
+-- It serves clauses of functions of `state`.
 use Rattle.std.proofs.Common.{◌≡◌, ℕ, Bool, true, false, not, ◌&&◌, ◌||◌, List, [], ◌∷◌, ◌++◌, Option, Some, None, refl, ap, sym, ◌∙◌, subst}
 use Rattle.std.specs.Prelude.{is_some}
 use Rattle.std.specs.Option.{option_and_then}
@@ -76,7 +77,8 @@ may-hear-taken (TakenDisconnecting f) now v o = refl
 may-hear-taken TakenIdle now v o = o
 
 -- A machine whose Connect-Request went out may get a message.
-may-hear-at : (waits : Stage) (E : List InitEvent) (now : ℕ) (v : Verdict) → IN.is_open waits ≡ true → AcceptStands (standing_at waits) E → is_some (request E) ≡ true → may_tell_dialled waits (Came now v) ≡ true
+may-hear-at : (waits : Stage) (E : List InitEvent) (now : ℕ) (v : Verdict) → IN.is_open waits ≡ true → AcceptStands (standing_at waits) E → is_some (request E) ≡ true
+    → may_tell_dialled waits (Came now v) ≡ true
 may-hear-at AwaitingWebsocket E now v o h r = absurd (false≢true (sym (ap is_some h.0) ∙ r))
 may-hear-at (AwaitingAccept i) E now v o h r = refl
 may-hear-at (Connected put) E now v o h r = refl
@@ -87,9 +89,11 @@ or_false : (b c : Bool) → b ≡ false → (b || c) ≡ true → c ≡ true
 or_false true c e h = absurd (false≢true (sym e))
 or_false false c e h = h
 
-pub may-hear : (a : Made) (L : Log) (name : LinkName) (m : Initiating) (now : ℕ) (v : Verdict) → IN.is_open m.stage ≡ true → DialledStands a L name m → is_open name L ≡ true → may_tell_dialled m.stage (Came now v) ≡ true
+pub may-hear : (a : Made) (L : Log) (name : LinkName) (m : Initiating) (now : ℕ) (v : Verdict) → IN.is_open m.stage ≡ true → DialledStands a L name m → is_open name L ≡ true
+    → may_tell_dialled m.stage (Came now v) ≡ true
 may-hear a L name m now v o d h =
-    may-hear-at m.stage (initiating_events L name) now v o (subst (λ (g : I.Standing). AcceptStands g (initiating_events L name)) (standing_of_open m (start a L name) (initiating_events L name) d.machine o) d.accept)
+    may-hear-at m.stage (initiating_events L name) now v o (subst (λ (g : I.Standing). AcceptStands g (initiating_events L name))
+    (standing_of_open m (start a L name) (initiating_events L name) d.machine o) d.accept)
     (or_false (was_taken name L) (has_opened name L) d.dialled (and_right (is_there name L) (was_taken name L || has_opened name L) h))
 
 none_if : {C : Type 0} (o : Option C) → not (is_some o) ≡ true → o ≡ None
@@ -106,7 +110,8 @@ no-phase (I.disconnecting f) E r h = absurd (false≢true (sym (ap is_some (ap (
 pub unopened : (a : Made) (L : Log) (name : LinkName) (m : Initiating) → DialledStands a L name m → is_dialling name L ≡ true → I.phase (initiating_events L name) ≡ None
 unopened a L name m d h =
     no-phase (I.standing (initiating_events L name)) (initiating_events L name)
-    (none_if (request (initiating_events L name)) (and_right (is_there name L && not (was_taken name L)) (not (has_opened name L)) (and_assoc (is_there name L) (not (was_taken name L)) (not (has_opened name L)) h)))
+    (none_if (request (initiating_events L name)) (and_right (is_there name L && not (was_taken name L)) (not (has_opened name L))
+    (and_assoc (is_there name L) (not (was_taken name L)) (not (has_opened name L)) h)))
     d.accept
   where
     and_assoc : (b c e : Bool) → (b && c && e) ≡ true → ((b && c) && e) ≡ true
@@ -156,7 +161,8 @@ module _ (b : Base) (out : List Action) (s : State) (L : Log) (name : LinkName) 
       ap (λ (x : ℕ). initiating name (Opened time x) ∷ []) (sym h.next)
       ∙ ap (λ (x : ℕ). initiating name (Opened x (next_id L)) ∷ []) (sym (h.now ∙ w))
 
-  pub hears-dialled : (m : Initiating) (o : List ℕ) (v : Verdict) → verdict b.made L name o ≡ v → (link_at s.links name).machine ≡ Dialled m → initiating name (Came time v) ∷ [] ≡ hears b.made name o L
+  pub hears-dialled : (m : Initiating) (o : List ℕ) (v : Verdict) → verdict b.made L name o ≡ v → (link_at s.links name).machine ≡ Dialled m
+      → initiating name (Came time v) ∷ [] ≡ hears b.made name o L
   hears-dialled m o v e is =
       ap (λ (x : Verdict). initiating name (Came time x) ∷ []) (sym e)
       ∙ ap (λ (x : ℕ). initiating name (Came x (verdict b.made L name o)) ∷ []) (sym (h.now ∙ w))
@@ -168,7 +174,8 @@ module _ (b : Base) (out : List Action) (s : State) (L : Log) (name : LinkName) 
       ∙ ap (λ (x : ℕ). accepting name (Heard x (verdict b.made L name o)) ∷ []) (sym (h.now ∙ w))
       ∙ ap (λ (t : Bool). by_machine (λ k. Came (now L) (verdict b.made L k o)) (λ k. Heard (now L) (verdict b.made L k o)) name t) (sym (taken-before m is).taken)
 
-pub told-lines : (b : Base) (out : List Action) (s : State) (L : Log) (name : LinkName) (u : Outcome) (lines others : List Line) → lines ≡ others → HasTold b out s (L ++ lines) name u → HasTold b out s (L ++ others) name u
+pub told-lines : (b : Base) (out : List Action) (s : State) (L : Log) (name : LinkName) (u : Outcome) (lines others : List Line) → lines ≡ others → HasTold b out s (L ++ lines) name u
+    → HasTold b out s (L ++ others) name u
 told-lines b out s L name u lines others e h = subst (λ (ms : List Line). HasTold b out s (L ++ ms) name u) e h
 
 -- ---- where a message came from
@@ -179,7 +186,8 @@ origin-is time (Carry envelope) = refl
 origin-is time (Silent check) = refl
 origin-is time (Nak check octets) = refl
 
-pub told-from : (b : Base) (out : List Action) (s : State) (L : Log) (name : LinkName) (time : ℕ) (v : Verdict) (d : InitStep) → HasTold b out s L name (outcome_of (origin_of (Came time v)) (message_in v) d) → HasTold b out s L name (outcome_of (origin_in v) (message_in v) d)
+pub told-from : (b : Base) (out : List Action) (s : State) (L : Log) (name : LinkName) (time : ℕ) (v : Verdict) (d : InitStep)
+    → HasTold b out s L name (outcome_of (origin_of (Came time v)) (message_in v) d) → HasTold b out s L name (outcome_of (origin_in v) (message_in v) d)
 told-from b out s L name time v d h = subst (λ (o : Option Vmac). HasTold b out s L name (outcome_of o (message_in v) d)) (origin-is time v) h
 
 -- ---- whether what an accepting machine does nothing with is for the node

@@ -1,4 +1,5 @@
 -- What a node keeps goes on standing for its log, at one line more.
+-- It serves clauses of most source files here.
 use Rattle.std.proofs.Common.{◌≡◌, ℕ, ◌+◌, Bool, true, false, not, cond, ◌||◌, List, [], ◌∷◌, ◌++◌, Option, None, refl, ap, sym, ◌∙◌, subst, append_assoc}
 use Rattle.std.specs.Prelude.{◌%◌, min, count_by, is_some}
 use Rattle.std.specs.Option.{option_or}
@@ -36,7 +37,8 @@ use Rattle.bsc_node_core.specs.declared.machine.Machine.TheVariants.{Gone, Over,
 use Rattle.bsc_node_core.specs.declared.state.State.{State}
 use Rattle.bsc_node_core.specs.Tables.{Kept, link_at}
 use Rattle.bsc_node_core.specs.Standing.{Base, next_after, renewals_after, dropped_after, HaveCome, TakenStands, MachineStands, LinkStands, Stands}
-use Rattle.bsc_node_core.proofs.More.{now-kept, own-kept, next-kept, finishing-kept, renewals-kept, refusing-kept, dropped-kept, tries-kept, taken-kept, start-kept, initiating-kept, accepting-kept, since-now, count-one_more, filter-one_more}
+use Rattle.bsc_node_core.proofs.More.{now-kept, own-kept, next-kept, finishing-kept, renewals-kept, refusing-kept, dropped-kept, tries-kept, taken-kept, start-kept}
+use Rattle.bsc_node_core.proofs.More.{initiating-kept, accepting-kept, since-now, count-one_more, filter-one_more}
 use Rattle.bsc_node_core.proofs.Untouched.{agrees-slots}
 use Rattle.bsc_lemmas.proofs.Lists.{filter_map_none as filter-kept}
 use Rattle.bsc_node.proofs.Common.{hub_events-kept, resolve_calls-kept, slot_calls-kept}
@@ -54,7 +56,8 @@ taken-machine-kept a L m name x h i j s = record {
   ask = rw (accepting-kept L m name (ap is_some h) j) s.ask;
 }
 
-machine-kept : (a : Made) (busy : Option LinkName) (L : Log) (m : Line) (name : LinkName) (machine : Machine) → beginning_of name m ≡ None → initiating_event name m ≡ None → accepting_event name m ≡ None
+machine-kept : (a : Made) (busy : Option LinkName) (L : Log) (m : Line) (name : LinkName) (machine : Machine) → beginning_of name m ≡ None → initiating_event name m ≡ None
+    → accepting_event name m ≡ None
     → MachineStands a busy L name machine → MachineStands a busy (L ++ m ∷ []) name machine
 machine-kept a busy L m name Gone h i j s = s
 machine-kept a busy L m name Over h i j s = s
@@ -72,7 +75,8 @@ peer-kept L m name h i j =
     ap (λ es. option_or (who_accepted es) (who_asked (accepting_events (L ++ m ∷ []) name))) (initiating-kept L m name (ap is_some h) i)
     ∙ ap (λ es. option_or (who_accepted (initiating_events L name)) (who_asked es)) (accepting-kept L m name (ap is_some h) j)
 
-pub link-kept : (a : Made) (busy : Option LinkName) (L : Log) (m : Line) (name : LinkName) (l : Kept) → beginning_of name m ≡ None → is_over_by name m ≡ false → initiating_event name m ≡ None → accepting_event name m ≡ None
+pub link-kept : (a : Made) (busy : Option LinkName) (L : Log) (m : Line) (name : LinkName) (l : Kept) → beginning_of name m ≡ None → is_over_by name m ≡ false
+    → initiating_event name m ≡ None → accepting_event name m ≡ None
     → LinkStands a busy L name l → LinkStands a busy (L ++ m ∷ []) name l
 link-kept a busy L m name l h g i j s = record {
   there = there-kept name L m (ap is_some h) g ∙ s.there;

@@ -1,4 +1,5 @@
 -- What follows where a hub connection is over, case by case, and where a link is told to finish.
+-- It serves the clauses of `end_hub`.
 use Rattle.std.proofs.Common.{◌≡◌, true, false, List, ◌++◌}
 use Rattle.bsc_connector.specs.declared.side.Side.{Side}
 use Rattle.bsc_connector.specs.declared.event.ConnectorEvent.TheVariants.{Failed, Lost}
@@ -26,7 +27,8 @@ module _ (b : Base) (out : List Action) (s : State) (L : Log) (side : Side) wher
   pub hub-lost : is_dropped side L ≡ false → is_up side L ≡ true → Stands b out s (L ++ tells_connector b.made (Lost side) L) → Stands b out s (L ++ ends_hub b.made side L)
   hub-lost d u h = either-not P L (is_dropped side) nothing lost d (either-so P L (is_up side) (tells_connector b.made (Lost side)) failed u h)
 
-  pub hub-failed : is_dropped side L ≡ false → is_up side L ≡ false → is_under_way b.made side L ≡ true → Stands b out s (L ++ tells_connector b.made (Failed side) L) → Stands b out s (L ++ ends_hub b.made side L)
+  pub hub-failed : is_dropped side L ≡ false → is_up side L ≡ false → is_under_way b.made side L ≡ true → Stands b out s (L ++ tells_connector b.made (Failed side) L)
+      → Stands b out s (L ++ ends_hub b.made side L)
   hub-failed d u t h =
       either-not P L (is_dropped side) nothing lost d
       (either-not P L (is_up side) (tells_connector b.made (Lost side)) failed u (when-so P L (is_under_way b.made side) (tells_connector b.made (Failed side)) t h))

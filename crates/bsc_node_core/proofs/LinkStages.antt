@@ -1,4 +1,5 @@
 -- What is kept of a link says whether it is under way, and whether it is open.
+-- It serves the clauses of `is_dialling` and `is_open`.
 use Rattle.std.proofs.Common.{◌≡◌, Bool, true, false, not, ◌&&◌, ◌||◌, List, Option, Some, None, refl, ap, sym, ◌∙◌, subst}
 use Rattle.std.specs.Prelude.{is_some, is_none, if◌then◌else◌}
 use Rattle.std.specs.Option.{option_and_then}

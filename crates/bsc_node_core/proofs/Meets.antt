@@ -1,4 +1,5 @@
 -- What a node keeps goes on standing for its log, where a peer has named itself.
+-- It serves clauses of functions of `state`.
 use Rattle.std.proofs.Common.{◌≡◌, ◌⊎◌, inl, inr, ℕ, Bool, true, false, cond, List, [], ◌∷◌, ◌++◌, Option, Some, None, refl, ap, sym, ◌∙◌, subst}
 use Rattle.std.proofs.lemmas.Bool.{false≢true}
 use Rattle.std.proofs.lemmas.List.{append-nil}
@@ -52,7 +53,8 @@ use Rattle.bsc_node.proofs.Common.{slot_calls-kept}
 own-answer : (b : Base) (out : List Action) (s : State) (L : Log) (k : ℕ) (who : Identity) → Stands b out s L → Slots.establish s.own.vmac (slot_calls L) k who ≡ establish b.made k who L
 own-answer b out s L k who h = ap (λ (i : Identity). Slots.establish i.vmac (slot_calls L) k who) (sym h.own)
 
-pub answer-is : (b : Base) (out : List Action) (s : State) (L : Log) (k : ℕ) (who : Identity) (answer : Establish) → answer ≡ Slots.establish s.own.vmac (slot_calls L) k who → Stands b out s L → establish b.made k who L ≡ answer
+pub answer-is : (b : Base) (out : List Action) (s : State) (L : Log) (k : ℕ) (who : Identity) (answer : Establish) → answer ≡ Slots.establish s.own.vmac (slot_calls L) k who
+    → Stands b out s L → establish b.made k who L ≡ answer
 answer-is b out s L k who answer e h = sym (own-answer b out s L k who h) ∙ sym e
 
 up-where : (w : Option Vmac) (who : Identity) (own : Bool) (held replaced r : Option ℕ) → unless_wrong w who (unless_own own (unless_rival held replaced)) ≡ IsUp r → r ≡ replaced
@@ -100,8 +102,10 @@ not-up e (inr h) u = up-not-wrong (sym u ∙ h.1)
 -- ---- a connection comes up
 
 -- The slot comes up, and that is told.
-up-stands : (b : Base) (out told : List Action) (s : State) (L : Log) (k : ℕ) (who : Identity) (d : SlotTable) (answer : Establish) (r : Option ℕ) → DirectAnswers s.direct d s.own.vmac k who answer → answer ≡ IsUp r
-    → told ≡ out ++ Tell (DirectUp who.vmac) ∷ [] → Stands b out s L → Stands b told (record s { direct = d; direct_touched = true }) ((L ++ slot (Up k who) ∷ []) ++ did (Tell (DirectUp who.vmac)) ∷ [])
+up-stands : (b : Base) (out told : List Action) (s : State) (L : Log) (k : ℕ) (who : Identity) (d : SlotTable) (answer : Establish) (r : Option ℕ)
+    → DirectAnswers s.direct d s.own.vmac k who answer → answer ≡ IsUp r
+    → told ≡ out ++ Tell (DirectUp who.vmac) ∷ [] → Stands b out s L → Stands b told (record s { direct = d; direct_touched = true })
+    ((L ++ slot (Up k who) ∷ []) ++ did (Tell (DirectUp who.vmac)) ∷ [])
 up-stands b out told s L k who d answer r a e t h =
     let stands : DirectStands d (slot_calls L ++ Up k who ∷ []) = subst (λ (x : Establish). DirectStands d (and_up x (slot_calls L) k who)) e (a (slot_calls L) h.direct).1 in
     let up : Stands b out (record s { direct = d; direct_touched = true }) (L ++ slot (Up k who) ∷ []) = slot-stands b out s L (Up k who) d (λ j. refl) stands h in
@@ -109,11 +113,13 @@ up-stands b out told s L k who d answer r a e t h =
     (tell-stands b out (record s { direct = d; direct_touched = true }) (L ++ slot (Up k who) ∷ []) (DirectUp who.vmac) up)
 
 -- The answer is the log's.
-pub answered-up : (b : Base) (out : List Action) (s : State) (L : Log) (k : ℕ) (who : Identity) (d : SlotTable) (answer : Establish) (replaced : Option ℕ) → DirectAnswers s.direct d s.own.vmac k who answer
+pub answered-up : (b : Base) (out : List Action) (s : State) (L : Log) (k : ℕ) (who : Identity) (d : SlotTable) (answer : Establish) (replaced : Option ℕ)
+    → DirectAnswers s.direct d s.own.vmac k who answer
     → establish b.made k who L ≡ IsUp replaced → Stands b out s L → answer ≡ IsUp replaced
 answered-up b out s L k who d answer replaced a e h = (a (slot_calls L) h.direct).0 ∙ own-answer b out s L k who h ∙ e
 
-pub came-up : (b : Base) (out told later : List Action) (s s' : State) (L : Log) (k : ℕ) (who : Identity) (d : SlotTable) (answer : Establish) (r replaced : Option ℕ) → DirectAnswers s.direct d s.own.vmac k who answer → answer ≡ IsUp r
+pub came-up : (b : Base) (out told later : List Action) (s s' : State) (L : Log) (k : ℕ) (who : Identity) (d : SlotTable) (answer : Establish) (r replaced : Option ℕ)
+    → DirectAnswers s.direct d s.own.vmac k who answer → answer ≡ IsUp r
     → told ≡ out ++ Tell (DirectUp who.vmac) ∷ [] → establish b.made k who L ≡ IsUp replaced → Stands b out s L
     → ((M : Log) → ((j : ℕ) → r ≡ Some j → is_name (Direct j) ≡ true) → Stands b told (record s { direct = d; direct_touched = true }) M → Stands b later s' (M ++ finishes_replaced b.made r M))
     → Stands b later s' (L ++ comes_up b.made k who replaced L)
@@ -183,11 +189,13 @@ taken-down b out s L k who answer e (inr d) h =
 
 -- ---- an accepting machine that has asked
 
-asked-is : (a : Made) (busy : Option LinkName) (L : Log) (name : LinkName) (machine : Machine) (m : Accepting) → machine ≡ Asked m → MachineStands a busy L name machine → MachineStands a busy L name (Asked m)
+asked-is : (a : Made) (busy : Option LinkName) (L : Log) (name : LinkName) (machine : Machine) (m : Accepting) → machine ≡ Asked m → MachineStands a busy L name machine
+    → MachineStands a busy L name (Asked m)
 asked-is a busy L name machine m e h = subst (λ (x : Machine). MachineStands a busy L name x) e h
 
 -- Its link was taken.
-pub asked-taken : (b : Base) (out : List Action) (s : State) (L : Log) (name : LinkName) (m : Accepting) → is_name name ≡ true → (link_at s.links name).machine ≡ Asked m → Stands (busy_with name b) out s L → was_taken name L ≡ true
+pub asked-taken : (b : Base) (out : List Action) (s : State) (L : Log) (name : LinkName) (m : Accepting) → is_name name ≡ true → (link_at s.links name).machine ≡ Asked m
+    → Stands (busy_with name b) out s L → was_taken name L ≡ true
 asked-taken b out s L name m n e h = (asked-is b.made (Some name) L name (link_at s.links name).machine m e (h.links name n).machine).0.taken
 
 -- It closes or asks nothing by the word on who asked.
@@ -212,7 +220,8 @@ not-asked machine (inr (inr (inl h))) = ap has_asked h.1
 not-asked machine (inr (inr (inr h))) = ap has_asked h.1
 
 -- Where the machine hasn't asked, the link was dialled, and no link is busy any more.
-pub told-dialled : (b : Base) (out : List Action) (s : State) (L : Log) (name : LinkName) (who : Identity) (machine : Machine) → b.busy ≡ None → machine ≡ (link_at s.links name).machine → has_asked machine ≡ false
+pub told-dialled : (b : Base) (out : List Action) (s : State) (L : Log) (name : LinkName) (who : Identity) (machine : Machine) → b.busy ≡ None → machine ≡ (link_at s.links name).machine
+    → has_asked machine ≡ false
     → HasTold b out s L name (meets who) → (was_taken name L ≡ false) × Stands b out s L
 told-dialled b out s L name who machine none e a told = by (was_taken name L) refl told.left
   where
@@ -220,18 +229,22 @@ told-dialled b out s L name who machine none e a told = by (was_taken name L) re
     by true w l = absurd (false≢true (sym a ∙ ap has_asked e ∙ l))
     by false w l = (w, settles b out s L name none l told.stands)
 
-pub met-taken : (b : Base) (out : List Action) (s : State) (L : Log) (k : ℕ) (who : Identity) → was_taken (Direct k) L ≡ true → Stands b out s (L ++ meets_taken b.made k who (establish b.made k who L) L) → Stands b out s (L ++ meets_slot b.made k who L)
+pub met-taken : (b : Base) (out : List Action) (s : State) (L : Log) (k : ℕ) (who : Identity) → was_taken (Direct k) L ≡ true
+    → Stands b out s (L ++ meets_taken b.made k who (establish b.made k who L) L) → Stands b out s (L ++ meets_slot b.made k who L)
 met-taken b out s L k who t h =
     subst (λ (x : Bool). Stands b out s (L ++ if_so x (meets_taken b.made k who (establish b.made k who L)) (meets_dialled b.made k who (establish b.made k who L)) L)) (sym t) h
 
-pub met-dialled : (b : Base) (out : List Action) (s : State) (L : Log) (k : ℕ) (who : Identity) → was_taken (Direct k) L ≡ false → Stands b out s (L ++ meets_dialled b.made k who (establish b.made k who L) L) → Stands b out s (L ++ meets_slot b.made k who L)
+pub met-dialled : (b : Base) (out : List Action) (s : State) (L : Log) (k : ℕ) (who : Identity) → was_taken (Direct k) L ≡ false
+    → Stands b out s (L ++ meets_dialled b.made k who (establish b.made k who L) L) → Stands b out s (L ++ meets_slot b.made k who L)
 met-dialled b out s L k who t h =
     subst (λ (x : Bool). Stands b out s (L ++ if_so x (meets_taken b.made k who (establish b.made k who L)) (meets_dialled b.made k who (establish b.made k who L)) L)) (sym t) h
 
-pub met-awaited : (b : Base) (out : List Action) (s : State) (L : Log) (k : ℕ) (who : Identity) → awaits_peer k L ≡ true → Stands b out s (L ++ meets_slot b.made k who L) → Stands b out s (L ++ meets_direct b.made k who L)
+pub met-awaited : (b : Base) (out : List Action) (s : State) (L : Log) (k : ℕ) (who : Identity) → awaits_peer k L ≡ true → Stands b out s (L ++ meets_slot b.made k who L)
+    → Stands b out s (L ++ meets_direct b.made k who L)
 met-awaited b out s L k who t h = subst (λ (x : Bool). Stands b out s (L ++ if_so x (meets_slot b.made k who) (closes_link b.made (Direct k) wrong_peer) L)) (sym t) h
 
-pub met-unawaited : (b : Base) (out : List Action) (s : State) (L : Log) (k : ℕ) (who : Identity) → awaits_peer k L ≡ false → Stands b out s (L ++ closes_link b.made (Direct k) wrong_peer L) → Stands b out s (L ++ meets_direct b.made k who L)
+pub met-unawaited : (b : Base) (out : List Action) (s : State) (L : Log) (k : ℕ) (who : Identity) → awaits_peer k L ≡ false → Stands b out s (L ++ closes_link b.made (Direct k) wrong_peer L)
+    → Stands b out s (L ++ meets_direct b.made k who L)
 met-unawaited b out s L k who t h = subst (λ (x : Bool). Stands b out s (L ++ if_so x (meets_slot b.made k who) (closes_link b.made (Direct k) wrong_peer) L)) (sym t) h
 
 -- ---- a hub
@@ -249,14 +262,17 @@ hub-told b out s L side who none told =
     (told-dialled b out s L (Hub side) who (link_at s.links (Hub side)).machine none refl
     (hub-not-asked b.made (Some (Hub side)) L side (link_at s.links (Hub side)).machine (told.stands.links (Hub side) refl).machine) told).1
 
-pub hub-met : (b : Base) (out : List Action) (s : State) (L : Log) (side : Side) (who : Identity) → is_under_way b.made side L ≡ true → Stands b out s (L ++ tells_connector b.made (Connected side) L) → Stands b out s (L ++ meets_peer b.made (Hub side) who L)
+pub hub-met : (b : Base) (out : List Action) (s : State) (L : Log) (side : Side) (who : Identity) → is_under_way b.made side L ≡ true
+    → Stands b out s (L ++ tells_connector b.made (Connected side) L) → Stands b out s (L ++ meets_peer b.made (Hub side) who L)
 hub-met b out s L side who t h = subst (λ (x : Bool). Stands b out s (L ++ if_so x (tells_connector b.made (Connected side)) nothing L)) (sym t) h
 
-pub hub-unmet : (b : Base) (out : List Action) (s : State) (L : Log) (side : Side) (who : Identity) → is_under_way b.made side L ≡ false → Stands b out s L → Stands b out s (L ++ meets_peer b.made (Hub side) who L)
+pub hub-unmet : (b : Base) (out : List Action) (s : State) (L : Log) (side : Side) (who : Identity) → is_under_way b.made side L ≡ false → Stands b out s L
+    → Stands b out s (L ++ meets_peer b.made (Hub side) who L)
 hub-unmet b out s L side who t h = subst (λ (x : Bool). Stands b out s (L ++ if_so x (tells_connector b.made (Connected side)) nothing L)) (sym t) (nothing-more b out s L h)
 
 -- ---- a link of either kind
 
-pub met-as : (b : Base) (out out' : List Action) (s s' : State) (L : Log) (name other : LinkName) (who : Identity) → name ≡ other → (HasTold b out s L other (meets who) → Stands b out' s' (L ++ meets_peer b.made other who L))
+pub met-as : (b : Base) (out out' : List Action) (s s' : State) (L : Log) (name other : LinkName) (who : Identity) → name ≡ other
+    → (HasTold b out s L other (meets who) → Stands b out' s' (L ++ meets_peer b.made other who L))
     → HasTold b out s L name (meets who) → Stands b out' s' (L ++ meets_peer b.made name who L)
 met-as b out out' s s' L name other who e goes = subst (λ (x : LinkName). HasTold b out s L x (meets who) → Stands b out' s' (L ++ meets_peer b.made x who L)) (sym e) goes

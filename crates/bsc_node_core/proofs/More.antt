@@ -1,4 +1,5 @@
 -- What a log says with one line more.
+-- It serves clauses of most source files here.
 use Rattle.std.proofs.Common.{◌≡◌, ℕ, ◌+◌, Bool, true, false, cond, ◌||◌, List, [], ◌∷◌, ◌++◌, Option, Some, None, unwrap_or, refl, ap, ◌∙◌, arith}
 use Rattle.std.specs.Prelude.{◌%◌, filter_map, count_by}
 use Rattle.std.specs.List.{list_any}

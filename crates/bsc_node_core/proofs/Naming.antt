@@ -1,4 +1,5 @@
 -- Who the peer of a link is, once its machine is told one thing more.
+-- It serves clauses of functions of `state`.
 use Rattle.std.proofs.Common.{◌≡◌, ℕ, ◌==◌, Bool, true, false, not, cond, ◌&&◌, List, [], ◌∷◌, ◌++◌, Option, Some, None, refl, ap, sym, ◌∙◌, subst}
 use Rattle.std.specs.Prelude.{is_some}
 use Rattle.std.specs.Option.{option_or, option_and_then, option_map}
@@ -129,7 +130,8 @@ accept-by connected put E (Tick now i) m h = still-accepted E (Tick now i) h
 accept-by (disconnecting f) put E e m h = still-accepted E e h
 
 -- Whether the peer has accepted, with one thing more that the machine was told.
-pub accept-goes-on : (E : List InitEvent) (e : InitEvent) (put : Bool) → may_tell_dialled (open_stage (standing E) put) e ≡ true → AcceptStands (standing E) E → AcceptStands (standing (E ++ e ∷ [])) (E ++ e ∷ [])
+pub accept-goes-on : (E : List InitEvent) (e : InitEvent) (put : Bool) → may_tell_dialled (open_stage (standing E) put) e ≡ true → AcceptStands (standing E) E
+    → AcceptStands (standing (E ++ e ∷ [])) (E ++ e ∷ [])
 accept-goes-on E e put m h = subst (λ (g : Standing). AcceptStands g (E ++ e ∷ [])) (sym (standing-more E e)) (accept-by (standing E) put E e m h)
 
 -- ---- and who it is
@@ -161,7 +163,8 @@ served_names id DisconnectRequest p = refl
 served_names id HeartbeatAck p = refl
 served_names id body p = refl
 
-answered : (E : List InitEvent) (now id : ℕ) (msg : Message) (b : Bool) (o : Option Identity) (code : Option ℕ) → accepts_by id (Came now (Pass msg)) ≡ cond b o None → AcceptStands (awaiting_accept id) E
+answered : (E : List InitEvent) (now id : ℕ) (msg : Message) (b : Bool) (o : Option Identity) (code : Option ℕ) → accepts_by id (Came now (Pass msg)) ≡ cond b o None
+    → AcceptStands (awaiting_accept id) E
     → who_accepted (E ++ Came now (Pass msg) ∷ []) ≡ dialled_peer (cond b (answer_step o code) Nothing) (who_accepted E)
 answered E now id msg true (Some who) code a h = accepted-at E (Came now (Pass msg)) id h.0 h.1 ∙ a
 answered E now id msg true None (Some code) a h = accepted-at E (Came now (Pass msg)) id h.0 h.1 ∙ a ∙ sym (accepted-before E id h.0 h.1)
@@ -184,7 +187,8 @@ message_names (disconnecting f) put E now (Carry envelope) m h = accepted-stays 
 message_names (disconnecting f) put E now (Silent check) m h = accepted-stays E (Came now (Silent check)) h
 message_names (disconnecting f) put E now (Nak check octets) m h = accepted-stays E (Came now (Nak check octets)) h
 
-opened_names : (g : Standing) (put : Bool) (E : List InitEvent) (now id : ℕ) → may_tell_dialled (open_stage g put) (Opened now id) ≡ true → AcceptStands g E → who_accepted (E ++ Opened now id ∷ []) ≡ who_accepted E
+opened_names : (g : Standing) (put : Bool) (E : List InitEvent) (now id : ℕ) → may_tell_dialled (open_stage g put) (Opened now id) ≡ true → AcceptStands g E
+    → who_accepted (E ++ Opened now id ∷ []) ≡ who_accepted E
 opened_names awaiting_websocket put E now id m h =
     accepted-more E (Opened now id) ∙ ap (λ o. accepted_by E (Opened now id) (option_or o (Some id))) h.0 ∙ ap (λ o. option_or o None) (h.1 id) ∙ sym (unasked-before E h.0)
 opened_names (awaiting_accept i) put E now id m h = absurd (false≢true m)
@@ -211,7 +215,8 @@ still-asked E e h = ap is_some (asked-stays E e h) ∙ h
 asked-first : (E : List Event) (e : Event) → who_asked E ≡ None → who_asked (E ++ e ∷ []) ≡ asks_by e
 asked-first E e h = first-more asks_by E e ∙ ap (λ o. option_or o (asks_by e)) h
 
-asking : (E : List Event) (now id : ℕ) (msg : Message) (o : Option Identity) → asks_by (Heard now (Pass msg)) ≡ o → who_asked E ≡ None → AskStands A.awaiting_request (option_map (λ (who : Identity). id) o) (E ++ Heard now (Pass msg) ∷ [])
+asking : (E : List Event) (now id : ℕ) (msg : Message) (o : Option Identity) → asks_by (Heard now (Pass msg)) ≡ o → who_asked E ≡ None
+    → AskStands A.awaiting_request (option_map (λ (who : Identity). id) o) (E ++ Heard now (Pass msg) ∷ [])
 asking E now id msg (Some who) a h = ap is_some (asked-first E (Heard now (Pass msg)) h ∙ a)
 asking E now id msg None a h = asked-first E (Heard now (Pass msg)) h ∙ a
 
@@ -221,7 +226,8 @@ asked-by E now (Carry envelope) h = asked-first E (Heard now (Carry envelope)) h
 asked-by E now (Silent check) h = asked-first E (Heard now (Silent check)) h
 asked-by E now (Nak check octets) h = asked-first E (Heard now (Nak check octets)) h
 
-ask-by : (s : Start) (g : A.Standing) (q : Option ℕ) (E : List Event) (e : Event) → may_tell_taken (AN.open_stage g q) e ≡ true → AS.closes (AS.step s E e) ≡ false → AskStands g q E → AskStands (AK.moved g e) (A.asked_at e) (E ++ e ∷ [])
+ask-by : (s : Start) (g : A.Standing) (q : Option ℕ) (E : List Event) (e : Event) → may_tell_taken (AN.open_stage g q) e ≡ true → AS.closes (AS.step s E e) ≡ false → AskStands g q E
+    → AskStands (AK.moved g e) (A.asked_at e) (E ++ e ∷ [])
 ask-by s A.awaiting_request None E (Heard now v) m c h = asked-by E now v h
 ask-by s A.awaiting_request None E Joined m c h = absurd (false≢true m)
 ask-by s A.awaiting_request None E (IsRefused refusal) m c h = absurd (false≢true m)
@@ -243,7 +249,8 @@ ask-by s A.connected q E (Ticked now) m c h = still-asked E (Ticked now) h
 ask-by s (A.disconnecting f) q E e m c h = still-asked E e h
 
 -- Whether the peer has asked, with one thing more that the machine was told and by which it doesn't close.
-pub ask-goes-on : (s : Start) (E : List Event) (e : Event) → may_tell_taken (AN.open_stage (A.standing E) (A.question E)) e ≡ true → AS.closes (AS.step s E e) ≡ false → AskStands (A.standing E) (A.question E) E
+pub ask-goes-on : (s : Start) (E : List Event) (e : Event) → may_tell_taken (AN.open_stage (A.standing E) (A.question E)) e ≡ true → AS.closes (AS.step s E e) ≡ false
+    → AskStands (A.standing E) (A.question E) E
     → AskStands (A.standing (E ++ e ∷ [])) (A.question (E ++ e ∷ [])) (E ++ e ∷ [])
 ask-goes-on s E e m c h =
     subst (λ (g : A.Standing). AskStands g (A.question (E ++ e ∷ [])) (E ++ e ∷ [])) (sym (AL.standing-more E e))
@@ -273,11 +280,13 @@ tick_asks s last now A.awaiting_request p = no_asker (connect_wait_is_over s now
 tick_asks s last now A.connected p = no_asker (is_idle s last now) _ p
 tick_asks s last now (A.disconnecting f) p = no_asker (disconnect_wait_is_over s f now) _ p
 
-asks-first : (E : List Event) (now : ℕ) (msg : Message) (o : Option Identity) → asks_by (Heard now (Pass msg)) ≡ o → who_asked E ≡ None → who_asked (E ++ Heard now (Pass msg) ∷ []) ≡ taken_peer (AS.ask_step o) (who_asked E)
+asks-first : (E : List Event) (now : ℕ) (msg : Message) (o : Option Identity) → asks_by (Heard now (Pass msg)) ≡ o → who_asked E ≡ None
+    → who_asked (E ++ Heard now (Pass msg) ∷ []) ≡ taken_peer (AS.ask_step o) (who_asked E)
 asks-first E now msg (Some who) a h = asked-first E (Heard now (Pass msg)) h ∙ a
 asks-first E now msg None a h = asked-first E (Heard now (Pass msg)) h ∙ a ∙ sym h
 
-message_asks : (g : A.Standing) (q : Option ℕ) (E : List Event) (now : ℕ) (v : Verdict) → may_tell_taken (AN.open_stage g q) (Heard now v) ≡ true → AskStands g q E → who_asked (E ++ Heard now v ∷ []) ≡ taken_peer (AS.message_step g v) (who_asked E)
+message_asks : (g : A.Standing) (q : Option ℕ) (E : List Event) (now : ℕ) (v : Verdict) → may_tell_taken (AN.open_stage g q) (Heard now v) ≡ true → AskStands g q E
+    → who_asked (E ++ Heard now v ∷ []) ≡ taken_peer (AS.message_step g v) (who_asked E)
 message_asks A.awaiting_request None E now (Pass msg) m h = asks-first E now msg (who_asks msg.body) refl h
 message_asks A.awaiting_request None E now (Carry envelope) m h = asked-kept E (Heard now (Carry envelope)) refl
 message_asks A.awaiting_request None E now (Silent check) m h = asked-kept E (Heard now (Silent check)) refl

@@ -1,4 +1,5 @@
 -- What a node keeps and its address resolution go on standing for its log, where a dial failed.
+-- It serves the clauses of `fail_dial` and `learnt_uri`.
 use Rattle.std.proofs.Common.{◌≡◌, ℕ, ◌+◌, ◌<◌, ◌≤◌, Bool, true, false, List, [], ◌∷◌, length, Option, Some, refl, ap, sym, ◌∙◌, arith, length-append}
 use Rattle.std.specs.Prelude.{◌==◌, ◌^◌, filter, min, nat_le, slice_get}
 use Rattle.std.proofs.lemmas.Bool.{leb-true, leb-false}
@@ -31,7 +32,8 @@ dialled : (text word : List ℕ) → length (filter is_ws_uri (words_with word t
 dialled [] word = let q = last_word word in omega (arith, q)
 dialled (c ∷ text) word = by (c == 0x20) refl (dialled text []) (dialled text (one_more word c))
   where
-    by : (b : Bool) → (c == 0x20) ≡ b → length (filter is_ws_uri (words_with [] text)) ≤ 0 + length text → length (filter is_ws_uri (words_with (one_more word c) text)) ≤ length (one_more word c) + length text
+    by : (b : Bool) → (c == 0x20) ≡ b → length (filter is_ws_uri (words_with [] text)) ≤ 0 + length text
+        → length (filter is_ws_uri (words_with (one_more word c) text)) ≤ length (one_more word c) + length text
         → length (filter is_ws_uri (words_with word (c ∷ text))) ≤ length word + length (c ∷ text)
     by true h r s = rw h (let q = filtered word (words_with [] text) in omega (arith, q, r))
     by false h r s = rw h (let n : length (one_more word c) ≡ length word + 1 = ap length (at_the_end word c) ∙ length-append word (c ∷ []) in omega (arith, n, s))
@@ -49,7 +51,8 @@ same_uri uris n number few m = by (nat_le n 18446744073709551615) refl
 pub learnt-of : (v : Vmac) (L : Log) (text : List ℕ) (o : Option (List ℕ)) (n number : ℕ) → length text < 2 ^ 64 → min n 18446744073709551615 ≡ number → learnt v L ≡ Some text
     → o ≡ slice_get (filter is_ws_uri (words_with [] text)) number → o ≡ slice_get (uris_to_dial v L) n
 learnt-of v L text o n number fits m l h =
-    h ∙ same_uri (filter is_ws_uri (words_with [] text)) n number (let q : length (filter is_ws_uri (words_with [] text)) ≤ 0 + length text = dialled text [] in omega (arith, q, fits)) m ∙ sym (these-to-dial v L text n l)
+    h ∙ same_uri (filter is_ws_uri (words_with [] text)) n number (let q : length (filter is_ws_uri (words_with [] text)) ≤ 0 + length text = dialled text [] in omega (arith, q, fits)) m
+    ∙ sym (these-to-dial v L text n l)
 
 -- A dial of a hub that fails: its connection is over.
 pub hub-fails : (a : Made) (name : LinkName) (side : Side) (L : Log) → name ≡ Hub side → dial_fails a name L ≡ ends a name L

@@ -1,4 +1,5 @@
 -- Whether any link is there, by what is kept of the links.
+-- It serves the clauses of `may_draw`, `none_there` and `tell_finished`.
 use Rattle.std.proofs.Common.{◌≡◌, ℕ, zero, suc, ◌+◌, ◌<◌, Bool, true, false, not, ◌&&◌, ◌||◌, List, [], ◌∷◌, ◌++◌, map, length, Option, refl, ap, sym, ◌∙◌, arith}
 use Rattle.std.specs.Prelude.{slice_get}
 use Rattle.std.specs.List.{list_any, range_with_len}
@@ -73,7 +74,8 @@ or_three false b c = refl
 
 -- The three tests are that of all names.
 pub any-kept-there : (ls : Links) → length ls.slots.items ≡ SLOTS
-    → ((says_there ls.primary.machine || says_there ls.failover.machine) || list_any (λ (l : Link). says_there l.machine) ls.slots.items) ≡ list_any (λ name. says_there (link_at ls name).machine) names
+    → ((says_there ls.primary.machine || says_there ls.failover.machine) || list_any (λ (l : Link). says_there l.machine) ls.slots.items)
+    ≡ list_any (λ name. says_there (link_at ls name).machine) names
 unfolding slots
 any-kept-there ls n =
     or_three (says_there ls.primary.machine) (says_there ls.failover.machine) (list_any (λ (l : Link). says_there l.machine) ls.slots.items)
@@ -83,13 +85,15 @@ any-kept-there ls n =
 
 -- ---- the end is told
 
-pub finished-told : (b : Base) (out later : List Action) (s : State) (L : Log) → later ≡ out ++ Tell Finished ∷ [] → s.finishing ≡ true → not (list_any (λ name. says_there (link_at s.links name).machine) names) ≡ true
+pub finished-told : (b : Base) (out later : List Action) (s : State) (L : Log) → later ≡ out ++ Tell Finished ∷ [] → s.finishing ≡ true
+    → not (list_any (λ name. says_there (link_at s.links name).machine) names) ≡ true
     → Stands b out s L → Stands b later s (L ++ tells_finished L)
 finished-told b out later s L t f n h =
     when-so (λ M. Stands b later s M) L (λ M. is_finishing M && none_there M) (tells Finished) (ap (λ c. c && none_there L) (h.finishing ∙ f) ∙ none-there-kept b out s L h ∙ n)
     (told-stands b out later s L _ Finished t refl h)
 
-pub links-left : (b : Base) (out : List Action) (s : State) (L : Log) → not (list_any (λ name. says_there (link_at s.links name).machine) names) ≡ false → Stands b out s L → Stands b out s (L ++ tells_finished L)
+pub links-left : (b : Base) (out : List Action) (s : State) (L : Log) → not (list_any (λ name. says_there (link_at s.links name).machine) names) ≡ false → Stands b out s L
+    → Stands b out s (L ++ tells_finished L)
 links-left b out s L n h =
     when-not (λ M. Stands b out s M) L (λ M. is_finishing M && none_there M) (tells Finished) (ap (λ c. is_finishing L && c) (none-there-kept b out s L h ∙ n) ∙ and_false (is_finishing L)) h
 

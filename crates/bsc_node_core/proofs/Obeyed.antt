@@ -1,4 +1,5 @@
 -- What a node keeps goes on standing for its log, where a step of a link's machine is obeyed.
+-- It serves the clauses of `apply_step`.
 use Rattle.std.proofs.Common.{◌≡◌, ◌⊎◌, inl, inr, ℕ, List, [], ◌∷◌, ◌++◌, Option, None, sym, subst}
 use Rattle.std.proofs.lemmas.List.{append-nil}
 use Rattle.bsc_octets.specs.declared.vmac.Vmac.{Vmac}
@@ -23,12 +24,14 @@ use Rattle.bsc_node_core.proofs.Carrying.{regrouped}
 use Rattle.bsc_node_core.proofs.Settling.{settles}
 
 -- What was told has the outcome of the step.
-pub told-by : (b : Base) (out : List Action) (s : State) (L : Log) (name : LinkName) (origin : Option Vmac) (msg : Option Message) (step d : InitStep) → step ≡ d → HasTold b out s L name (outcome_of origin msg step)
+pub told-by : (b : Base) (out : List Action) (s : State) (L : Log) (name : LinkName) (origin : Option Vmac) (msg : Option Message) (step d : InitStep) → step ≡ d
+    → HasTold b out s L name (outcome_of origin msg step)
     → HasTold b out s L name (outcome_of origin msg d)
 told-by b out s L name origin msg step d e told = subst (λ (x : InitStep). HasTold b out s L name (outcome_of origin msg x)) e told
 
 -- What follows from the newest step, once what follows from this outcome came about.
-obeyed : (b : Base) (out out' : List Action) (s s' : State) (L : Log) (name : LinkName) (u : Outcome) → HasTold b out s L name u → Stands b out' s' (L ++ obeys_by b.made name u L) → Stands b out' s' (L ++ obeys b.made name L)
+obeyed : (b : Base) (out out' : List Action) (s s' : State) (L : Log) (name : LinkName) (u : Outcome) → HasTold b out s L name u → Stands b out' s' (L ++ obeys_by b.made name u L)
+    → Stands b out' s' (L ++ obeys b.made name L)
 obeyed b out out' s s' L name u told h = subst (λ (x : Outcome). Stands b out' s' (L ++ obeys_by b.made name x L)) (sym told.newest) h
 
 -- A message is put.

@@ -1,4 +1,5 @@
 -- The place of a message that comes over a link is that of the log.
+-- It serves the clauses of `verdict`.
 use Rattle.std.proofs.Common.{◌≡◌, ℕ, Bool, true, ◌||◌, List, Option, None, unwrap_or, refl, ap, sym, ◌∙◌}
 use Rattle.std.specs.Option.{option_map}
 use Rattle.std.proofs.lemmas.Bool.{false≢true}
@@ -51,7 +52,8 @@ phase-taken (TakenDisconnecting f) = refl
 phase-taken TakenIdle = refl
 
 -- The phase of a link that is there and at rest.
-phase-is : (a : Made) (busy : Option LinkName) (L : Log) (name : LinkName) (machine : Machine) → is_at_rest machine ≡ true → says_there machine ≡ true → is_fit machine ≡ true → MachineStands a busy L name machine → phase_kept machine ≡ phase L name
+phase-is : (a : Made) (busy : Option LinkName) (L : Log) (name : LinkName) (machine : Machine) → is_at_rest machine ≡ true → says_there machine ≡ true → is_fit machine ≡ true
+    → MachineStands a busy L name machine → phase_kept machine ≡ phase L name
 phase-is a busy L name Gone r t f h = absurd (false≢true t)
 phase-is a busy L name Over r t f h = absurd (false≢true r)
 phase-is a busy L name (Dialled m) r t f h =
@@ -70,12 +72,14 @@ place-by own a L (Direct k) l o p e =
     ∙ ap (λ (x : Phase). NodeDirect (own_vmac a L) (option_map (λ (who : Identity). who.vmac) (peer L (Direct k))) x) p
 
 -- The place of a message that comes over a link that is open.
-pub place-is : (b : Base) (out : List Action) (s : State) (L : Log) (name : LinkName) → b.busy ≡ None → is_name name ≡ true → is_open name L ≡ true → is_fit (link_at s.links name).machine ≡ true → Stands b out s L
+pub place-is : (b : Base) (out : List Action) (s : State) (L : Log) (name : LinkName) → b.busy ≡ None → is_name name ≡ true → is_open name L ≡ true
+    → is_fit (link_at s.links name).machine ≡ true → Stands b out s L
     → place_kept s.own.vmac name (link_at s.links name) ≡ place b.made L name
 place-is b out s L name none n o f h =
     let l = h.links name n in
     place-by s.own.vmac b.made L name (link_at s.links name) (sym (ap (λ (who : Identity). who.vmac) h.own))
-    (phase-is b.made b.busy L name (link_at s.links name).machine (at-rest b out s L name none n h) (sym l.there ∙ and_left (is_there name L) (was_taken name L || has_opened name L) o) f l.machine) l.peer
+    (phase-is b.made b.busy L name (link_at s.links name).machine (at-rest b out s L name none n h)
+    (sym l.there ∙ and_left (is_there name L) (was_taken name L || has_opened name L) o) f l.machine) l.peer
 
 -- And its verdict.
 pub verdict-is : (b : Base) (out : List Action) (s : State) (L : Log) (name : LinkName) (o : List ℕ) → place_kept s.own.vmac name (link_at s.links name) ≡ place b.made L name → Stands b out s L

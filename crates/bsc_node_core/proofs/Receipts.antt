@@ -1,4 +1,5 @@
 -- What follows where a message comes for the node, line by line.
+-- It serves clauses of functions of `state`.
 use Rattle.std.proofs.Common.{◌≡◌, ℕ, Bool, true, false, not, cond, List, [], ◌∷◌, ◌++◌, Option, Some, None, ap, sym, ◌∙◌, subst}
 use Rattle.std.specs.Prelude.{is_some}
 use Rattle.std.proofs.lemmas.List.{append-nil}
@@ -29,7 +30,8 @@ advert-is b out s L limits used status accepts l u st ac h =
     ∙ ap (λ x. adverts (hub_status (hub_use L)) x s.own.max_bvlc s.own.max_npdu) (ac ∙ ap (λ (m : NodeLimits). cond (is_some m.uris) 1 0) (sym l))
     ∙ ap (λ (i : Identity). adverts (hub_status (hub_use L)) (cond (is_some b.made.limits.uris) 1 0) i.max_bvlc i.max_npdu) (sym h.own)
 
-pub advertised-lines : (b : Base) (out : List Action) (s : State) (L : Log) (name : LinkName) (msg : Message) (dest : Option Vmac) (o : List ℕ) (ad : Advert) → answer_dest name msg ≡ dest → ad ≡ advert b.made L
+pub advertised-lines : (b : Base) (out : List Action) (s : State) (L : Log) (name : LinkName) (msg : Message) (dest : Option Vmac) (o : List ℕ) (ad : Advert) → answer_dest name msg ≡ dest
+    → ad ≡ advert b.made L
     → o ≡ message_octets s.next dest (Advertisement ad) → Stands b out s L → advertises b.made name msg L ≡ did (Put name o) ∷ []
 advertised-lines b out s L name msg dest o ad d a oe h =
     ap (λ x. did (Put name x) ∷ [])
@@ -38,13 +40,15 @@ advertised-lines b out s L name msg dest o ad d a oe h =
     ∙ ap (λ x. message_octets s.next dest (Advertisement x)) (sym a)
     ∙ sym oe)
 
-pub uris-lines : (L : Log) (name : LinkName) (msg : Message) (dest : Option Vmac) (id : ℕ) (uris o : List ℕ) → msg.id ≡ id → answer_dest name msg ≡ dest → o ≡ message_octets id dest (AddressResolutionAck uris)
+pub uris-lines : (L : Log) (name : LinkName) (msg : Message) (dest : Option Vmac) (id : ℕ) (uris o : List ℕ) → msg.id ≡ id → answer_dest name msg ≡ dest
+    → o ≡ message_octets id dest (AddressResolutionAck uris)
     → answers_by name msg (Some uris) L ≡ did (Put name o) ∷ []
 uris-lines L name msg dest id uris o i d oe =
     ap (λ x. did (Put name x) ∷ [])
     (ap (λ n. message_octets n (answer_dest name msg) (AddressResolutionAck uris)) i ∙ ap (λ x. message_octets id x (AddressResolutionAck uris)) d ∙ sym oe)
 
-pub nak-lines : (L : Log) (name : LinkName) (msg : Message) (dest : Option Vmac) (id : ℕ) (o : List ℕ) → msg.id ≡ id → answer_dest name msg ≡ dest → is_for_all msg ≡ false → o ≡ message_octets id dest (nak 0x02 45)
+pub nak-lines : (L : Log) (name : LinkName) (msg : Message) (dest : Option Vmac) (id : ℕ) (o : List ℕ) → msg.id ≡ id → answer_dest name msg ≡ dest → is_for_all msg ≡ false
+    → o ≡ message_octets id dest (nak 0x02 45)
     → answers_by name msg None L ≡ did (Put name o) ∷ []
 nak-lines L name msg dest id o i d f oe =
     ap (λ (b : Bool). if_so (not b) (answers name msg msg.id (nak 0x02 45)) nothing L) f

@@ -1,4 +1,5 @@
 -- What the connector's newest step brings about, line by line.
+-- It serves the clauses of `tell_connector` and `tell_use`.
 use Rattle.std.proofs.Common.{◌≡◌, Bool, true, false, not, List, [], ◌∷◌, ◌++◌, refl, ap, sym, ◌∙◌}
 use Rattle.std.specs.Prelude.{unwrap_or}
 use Rattle.std.proofs.lemmas.List.{append-nil}
@@ -85,13 +86,15 @@ use-tested : (L : Log) (before used : HubUse) → hub_use_before L ≡ before �
 use-tested L before used p q = ap (λ (u : HubUse). same_use u (hub_use L)) p ∙ ap (λ (u : HubUse). same_use before u) (sym q)
 
 -- A change is told.
-pub use-told : (b : Base) (out later : List Action) (s : State) (L : Log) (before used : HubUse) → hub_use_before L ≡ before → used ≡ hub_use L → same_use before used ≡ false → later ≡ out ++ Tell (HubNow used) ∷ []
+pub use-told : (b : Base) (out later : List Action) (s : State) (L : Log) (before used : HubUse) → hub_use_before L ≡ before → used ≡ hub_use L → same_use before used ≡ false
+    → later ≡ out ++ Tell (HubNow used) ∷ []
     → Stands b out s L → Stands b later s (L ++ tells_use L)
 use-told b out later s L before used p q n t h =
     when-so (λ M. Stands b later s M) L (λ M. not (same_use (hub_use_before M) (hub_use M))) (tells (HubNow (hub_use L))) (ap not (use-tested L before used p q ∙ n))
     (told-stands b out later s L _ (HubNow used) t (ap (λ (u : HubUse). did (Tell (HubNow u)) ∷ []) (sym q)) h)
 
 -- Else nothing is.
-pub use-kept : (b : Base) (out : List Action) (s : State) (L : Log) (before used : HubUse) → hub_use_before L ≡ before → used ≡ hub_use L → same_use before used ≡ true → Stands b out s L → Stands b out s (L ++ tells_use L)
+pub use-kept : (b : Base) (out : List Action) (s : State) (L : Log) (before used : HubUse) → hub_use_before L ≡ before → used ≡ hub_use L → same_use before used ≡ true → Stands b out s L
+    → Stands b out s (L ++ tells_use L)
 use-kept b out s L before used p q e h =
     when-not (λ M. Stands b out s M) L (λ M. not (same_use (hub_use_before M) (hub_use M))) (tells (HubNow (hub_use L))) (ap not (use-tested L before used p q ∙ e)) h

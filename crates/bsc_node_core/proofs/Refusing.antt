@@ -1,4 +1,5 @@
 -- A link whose Connect-Request was refused is closed, and another VMAC is drawn, or the link is over.
+-- It serves the clauses of `be_refused`, `may_draw` and `may_renew`.
 use Rattle.std.proofs.Common.{◌≡◌, ℕ, Bool, true, false, not, ◌&&◌, List, [], ◌∷◌, ◌++◌, Option, None, refl, ap, sym, ◌∙◌, subst, arith}
 use Rattle.std.specs.Prelude.{nat_lt, ◌==◌, min}
 use Rattle.std.proofs.lemmas.Bool.{ltb-true, ltb-false, lt-ltb, le-ltb}
@@ -55,7 +56,8 @@ draw-quiet : IsQuiet Draw
 draw-quiet = record { begins = λ name. refl; over = λ name. refl; number = refl }
 
 -- Another VMAC is drawn.
-pub drawn-stands : (b : Base) (told later : List Action) (s : State) (L : Log) (name : LinkName) (origin : Option Vmac) (code : ℕ) → later ≡ told ++ Draw ∷ [] → may_draw name code (with_told name origin code L) ≡ true
+pub drawn-stands : (b : Base) (told later : List Action) (s : State) (L : Log) (name : LinkName) (origin : Option Vmac) (code : ℕ) → later ≡ told ++ Draw ∷ []
+    → may_draw name code (with_told name origin code L) ≡ true
     → Stands b told s (with_told name origin code L) → Stands b later s (L ++ is_refused_by b.made name origin code L)
 drawn-stands b told later s L name origin code o may h =
     refused-then b later s L name origin code true may
@@ -83,7 +85,8 @@ regrouped true true true false z = refl
 regrouped true true true true z = refl
 
 -- The answer by the parts.
-pub may-draw-by : (name : LinkName) (code : ℕ) (L : Log) (duplicate alone may : Bool) → duplicate ≡ (is_hub name && (code == 151)) → alone ≡ none_there L → may ≡ (not (is_finishing L) && nat_lt (renewals L) RENEWALS)
+pub may-draw-by : (name : LinkName) (code : ℕ) (L : Log) (duplicate alone may : Bool) → duplicate ≡ (is_hub name && (code == 151)) → alone ≡ none_there L
+    → may ≡ (not (is_finishing L) && nat_lt (renewals L) RENEWALS)
     → (duplicate && (alone && may)) ≡ may_draw name code L
 may-draw-by name code L duplicate alone may d t m =
     ap (λ (x : Bool). x && (alone && may)) d

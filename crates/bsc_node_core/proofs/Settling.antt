@@ -1,4 +1,5 @@
 -- What a node keeps stands whether a link is busy or not, where no machine is over and none has asked.
+-- It serves clauses of functions of `following`, `node` and `state`.
 use Rattle.std.proofs.Common.{◌≡◌, true, false, List, Option, Some, None, refl, sym, ◌∙◌, subst}
 use Rattle.std.proofs.lemmas.Bool.{false≢true}
 use Rattle.bsc_node.specs.declared.link_name.LinkName.{LinkName}
@@ -15,7 +16,8 @@ use Rattle.bsc_node_core.specs.Telling.{busy_with}
 use Rattle.std.proofs.lemmas.Option.{none-some as none≢some}
 
 -- A machine at rest stands whatever is busy.
-machine-at-rest : (a : Made) (busy other : Option LinkName) (L : Log) (name : LinkName) (machine : Machine) → is_at_rest machine ≡ true → MachineStands a busy L name machine → MachineStands a other L name machine
+machine-at-rest : (a : Made) (busy other : Option LinkName) (L : Log) (name : LinkName) (machine : Machine) → is_at_rest machine ≡ true → MachineStands a busy L name machine
+    → MachineStands a other L name machine
 machine-at-rest a busy other L name Gone r h = h
 machine-at-rest a busy other L name Over r h = absurd (false≢true r)
 machine-at-rest a busy other L name (Dialled m) r h = h
@@ -26,7 +28,8 @@ pub link-at-rest : (a : Made) (busy other : Option LinkName) (L : Log) (name : L
 link-at-rest a busy other L name l r h = record { there = h.there; machine = machine-at-rest a busy other L name l.machine r h.machine; peer = h.peer }
 
 -- A machine that is over, or that has asked, is that of the busy link.
-pub busy-or-at-rest : (a : Made) (busy : Option LinkName) (L : Log) (name : LinkName) (machine : Machine) → (busy ≡ Some name → is_at_rest machine ≡ true) → MachineStands a busy L name machine → is_at_rest machine ≡ true
+pub busy-or-at-rest : (a : Made) (busy : Option LinkName) (L : Log) (name : LinkName) (machine : Machine) → (busy ≡ Some name → is_at_rest machine ≡ true)
+    → MachineStands a busy L name machine → is_at_rest machine ≡ true
 busy-or-at-rest a busy L name Gone r h = refl
 busy-or-at-rest a busy L name Over r h = r h
 busy-or-at-rest a busy L name (Dialled m) r h = refl
@@ -65,7 +68,8 @@ pub is_busy : (b : Base) (out : List Action) (s : State) (L : Log) (name : LinkN
 is_busy b out s L name none h = any-busy b (Some name) out s L (λ other n. at-rest b out s L other none n h) h
 
 -- The link that was busy is at rest: none is busy any more.
-pub settles : (b : Base) (out : List Action) (s : State) (L : Log) (name : LinkName) → b.busy ≡ None → is_at_rest (link_at s.links name).machine ≡ true → Stands (busy_with name b) out s L → Stands b out s L
+pub settles : (b : Base) (out : List Action) (s : State) (L : Log) (name : LinkName) → b.busy ≡ None → is_at_rest (link_at s.links name).machine ≡ true → Stands (busy_with name b) out s L
+    → Stands b out s L
 settles b out s L name none rest h =
     (any-busy (busy_with name b) b.busy out s L (λ other n. busy-or-at-rest b.made (Some name) L other (link_at s.links other).machine (λ e. same other (some-is e)) (h.links other n).machine) h)
   where
@@ -83,5 +87,6 @@ gone (Taken m) h = refl
 gone (Asked m) h = absurd (false≢true (sym h))
 
 -- The link that was busy isn't there any more: none is busy.
-pub settles-gone : (b : Base) (out : List Action) (s : State) (L : Log) (name : LinkName) → b.busy ≡ None → is_name name ≡ true → is_there name L ≡ false → Stands (busy_with name b) out s L → Stands b out s L
+pub settles-gone : (b : Base) (out : List Action) (s : State) (L : Log) (name : LinkName) → b.busy ≡ None → is_name name ≡ true → is_there name L ≡ false → Stands (busy_with name b) out s L
+    → Stands b out s L
 settles-gone b out s L name none n t h = settles b out s L name none (gone (link_at s.links name).machine (sym (h.links name n).there ∙ t)) h

@@ -1,4 +1,5 @@
 -- What a node keeps to which nothing came yet.
+-- It serves the clauses of `make`.
 use Rattle.std.proofs.Common.{◌≡◌, ℕ, zero, suc, Bool, false, List, [], None, refl, ap, sym, ◌∙◌, subst}
 use Rattle.std.specs.Prelude.{is_some, replicate, slice_get}
 use Rattle.bsc_connector.specs.declared.side.Side.TheVariants.{Primary, Failover}
@@ -32,7 +33,8 @@ none-in (suc n) (suc k) link h = none-in n k link h
 pub none-in-slots : (items : List Link) (link : Link) (k : ℕ) → kept_of link ≡ nothing_kept → items ≡ replicate SLOTS link → kept_in (slice_get items k) ≡ nothing_kept
 none-in-slots items link k h i = ap (λ (ls : List Link). kept_in (slice_get ls k)) i ∙ none-in SLOTS k link h
 
-none-kept : (ls : Links) → kept_of ls.primary ≡ nothing_kept → kept_of ls.failover ≡ nothing_kept → ((k : ℕ) → kept_in (slice_get ls.slots.items k) ≡ nothing_kept) → (name : LinkName) → link_at ls name ≡ nothing_kept
+none-kept : (ls : Links) → kept_of ls.primary ≡ nothing_kept → kept_of ls.failover ≡ nothing_kept → ((k : ℕ) → kept_in (slice_get ls.slots.items k) ≡ nothing_kept) → (name : LinkName)
+    → link_at ls name ≡ nothing_kept
 none-kept ls p f s (Hub Primary) = p
 none-kept ls p f s (Hub Failover) = f
 none-kept ls p f s (Direct k) = s k
@@ -44,7 +46,8 @@ abbrev pub as_made : Made → Connector → Links → SlotTable → State
 as_made a c ls d = record { own = a.own; next = 1; finishing = false; renewals = 0; newest_hub = None; dropped = false; connector = c; links = ls; direct = d; direct_touched = false }
 
 pub made-stands : (a : Made) (r : Resolve) (c : Connector) (d : SlotTable) (ls : Links) (failover : Bool) → failover ≡ is_some a.limits.failover
-    → ConnectorStands c (record { failover = failover; least = a.limits.least_wait; greatest = a.limits.greatest_wait }) [] → DirectStands d [] → kept_of ls.primary ≡ nothing_kept → kept_of ls.failover ≡ nothing_kept → ((k : ℕ) → kept_in (slice_get ls.slots.items k) ≡ nothing_kept)
+    → ConnectorStands c (record { failover = failover; least = a.limits.least_wait; greatest = a.limits.greatest_wait }) [] → DirectStands d [] → kept_of ls.primary ≡ nothing_kept
+    → kept_of ls.failover ≡ nothing_kept → ((k : ℕ) → kept_in (slice_get ls.slots.items k) ≡ nothing_kept)
     → ResolveStands r a.limits.times.connect_wait [] → (spare : State) → KeepsSame (as_made a c ls d) spare → BothStand (at_rest a [] spare) [] (as_made a c ls d) r []
 made-stands a r c d ls failover f cs ds primary other slots rs spare copy =
     let none = none-kept ls primary other slots in record {

@@ -1,4 +1,5 @@
 -- What a step of a machine that the node dialled with is to the node.
+-- It serves the clauses of `step_dialled`.
 use Rattle.std.proofs.Common.{◌≡◌, refl}
 use Rattle.bsc_checks.specs.declared.verdict.Verdict.TheVariants.{Pass, Carry, Silent, Nak}
 use Rattle.bsc_initiate.specs.declared.event.InitEvent.{InitEvent}

@@ -1,4 +1,5 @@
 -- What a node keeps goes on standing for its log, where the machine of a link is told something.
+-- It serves clauses of functions of `state`.
 use Rattle.std.proofs.Common.{◌≡◌, ℕ, Bool, true, false, cond, ◌&&◌, List, [], ◌∷◌, ◌++◌, Option, Some, None, refl, ap, sym, ◌∙◌, subst}
 use Rattle.std.specs.Prelude.{min, is_some}
 use Rattle.std.specs.Option.{option_or}
@@ -33,7 +34,8 @@ use Rattle.bsc_node.specs.declared.link_name.LinkName.TheVariants.{Hub, Direct}
 use Rattle.bsc_connector.specs.declared.side.Side.TheVariants.{Failover}
 use Rattle.bsc_node.specs.declared.action.Action.{Action}
 use Rattle.bsc_node.specs.Logs.{Made, Line, initiating, accepting, Log, event_of, renewal_of, is_numbered, is_finish, action_of}
-use Rattle.bsc_node.specs.Links.{Outcome, same_link, beginning_of, is_over_by, was_taken, start, initiating_event, accepting_event, initiating_events, accepting_events, who_accepted, who_asked, peer, initiating_outcome, accepting_outcome, up_by_initiating, up_by_accepting, outcome}
+use Rattle.bsc_node.specs.Links.{Outcome, same_link, beginning_of, is_over_by, was_taken, start, initiating_event, accepting_event, initiating_events, accepting_events}
+use Rattle.bsc_node.specs.Links.{who_accepted, who_asked, peer, initiating_outcome, accepting_outcome, up_by_initiating, up_by_accepting, outcome}
 use Rattle.bsc_node.specs.Hubs.{waits, hub_event_of}
 use Rattle.bsc_node.specs.Ways.{slot_call_of, resolve_call_of, is_claim_of}
 use Rattle.bsc_node.specs.Meeting.{is_renewal, is_accept_of_hub, hub_message_of}
@@ -121,7 +123,8 @@ set-at old new name kept n sets = sets name ∙ ap (λ (b : Bool). cond (b && is
 set-other : (old new : Links) (name other : LinkName) (kept : Kept) → same_link name other ≡ false → Sets old new name kept → link_at new other ≡ link_at old other
 set-other old new name other kept x sets = sets other ∙ ap (λ (b : Bool). cond (b && is_name name) kept (link_at old other)) x
 
-links-told : (a : Made) (busy : Option LinkName) (L : Log) (name : LinkName) (m : Line) (kept : Kept) (old new : Links) → Tells name m → is_name name ≡ true → Sets old new name kept → LinkStands a busy (L ++ m ∷ []) name kept
+links-told : (a : Made) (busy : Option LinkName) (L : Log) (name : LinkName) (m : Line) (kept : Kept) (old new : Links) → Tells name m → is_name name ≡ true → Sets old new name kept
+    → LinkStands a busy (L ++ m ∷ []) name kept
     → ((other : LinkName) → is_name other ≡ true → LinkStands a busy L other (link_at old other))
     → (other : LinkName) → is_name other ≡ true → LinkStands a busy (L ++ m ∷ []) other (link_at new other)
 links-told a busy L name m kept old new t n sets stands h other o = by (same_link name other) refl
@@ -134,14 +137,16 @@ links-told a busy L name m kept old new t n sets stands h other o = by (same_lin
         subst (λ (l : Kept). LinkStands a busy (L ++ m ∷ []) other l) (sym (set-other old new name other kept x sets))
         (link-kept a busy L m other (link_at old other) (t.beginning other) (t.over other) (t.initiating other x) (t.accepting other x) (h other o))
 
-tries-told : (old new : Links) (name : LinkName) (kept : Kept) (k : ℕ) → is_name name ≡ true → Sets old new name kept → kept.tries ≡ (link_at old name).tries → (link_at new (Direct k)).tries ≡ (link_at old (Direct k)).tries
+tries-told : (old new : Links) (name : LinkName) (kept : Kept) (k : ℕ) → is_name name ≡ true → Sets old new name kept → kept.tries ≡ (link_at old name).tries
+    → (link_at new (Direct k)).tries ≡ (link_at old (Direct k)).tries
 tries-told old new name kept k n sets t = by (same_link name (Direct k)) refl
   where
     by : (b : Bool) → same_link name (Direct k) ≡ b → (link_at new (Direct k)).tries ≡ (link_at old (Direct k)).tries
     by true x = subst (λ (other : LinkName). (link_at new other).tries ≡ (link_at old other).tries) (same_link-is name (Direct k) x) (ap (λ (l : Kept). l.tries) (set-at old new name kept n sets) ∙ t)
     by false x = ap (λ (l : Kept). l.tries) (set-other old new name (Direct k) kept x sets)
 
-told-stands : (b : Base) (out : List Action) (s : State) (L : Log) (name : LinkName) (m : Line) (kept : Kept) (ls : Links) → Tells name m → is_name name ≡ true → Sets s.links ls name kept → Touches s.links ls name → kept.tries ≡ (link_at s.links name).tries
+told-stands : (b : Base) (out : List Action) (s : State) (L : Log) (name : LinkName) (m : Line) (kept : Kept) (ls : Links) → Tells name m → is_name name ≡ true → Sets s.links ls name kept
+    → Touches s.links ls name → kept.tries ≡ (link_at s.links name).tries
     → LinkStands b.made b.busy (L ++ m ∷ []) name kept → Stands b out s L → Stands b out (record s { links = ls }) (L ++ m ∷ [])
 told-stands b out s L name m kept ls t n sets touches same stands h = record {
   now = now-kept L m t.event ∙ h.now;
@@ -195,7 +200,8 @@ module _ (a : Made) (L : Log) (name : LinkName) (e : InitEvent) (before later : 
     (h : DialledStands a L name before) (may : may_tell_dialled before.stage e ≡ true)
     (answers : (step ≡ IS.step (start a L name) (initiating_events L name) e) × IN.InitiatingStands later (start a L name) (initiating_events L name ++ e ∷ [])) where
   may-dialled : may_tell_dialled (IN.open_stage (I.standing (initiating_events L name)) (I.heartbeat_was_put (start a L name) (initiating_events L name))) e ≡ true
-  may-dialled = open-dialled before.stage (IN.has_closed (start a L name) (initiating_events L name)) (IN.open_stage (I.standing (initiating_events L name)) (I.heartbeat_was_put (start a L name) (initiating_events L name))) e h.machine.stage may
+  may-dialled = open-dialled before.stage (IN.has_closed (start a L name) (initiating_events L name))
+      (IN.open_stage (I.standing (initiating_events L name)) (I.heartbeat_was_put (start a L name) (initiating_events L name))) e h.machine.stage may
 
   dialled-stands : DialledStands a (L ++ initiating name e ∷ []) name later
   dialled-stands = record {
@@ -225,7 +231,8 @@ module _ (a : Made) (L : Log) (name : LinkName) (e : InitEvent) (before later : 
       no_other (Some y) = refl
       no_other None = refl
 
-  dialled-link : (l : Kept) → LinkStands a (Some name) L name l → says_there l.machine ≡ true → LinkStands a (Some name) (L ++ initiating name e ∷ []) name (with_machine_and_peer (dialled_after later step) (dialled_peer step l.peer) l)
+  dialled-link : (l : Kept) → LinkStands a (Some name) L name l → says_there l.machine ≡ true
+      → LinkStands a (Some name) (L ++ initiating name e ∷ []) name (with_machine_and_peer (dialled_after later step) (dialled_peer step l.peer) l)
   dialled-link l k t = record {
     there = there-kept name L (initiating name e) refl refl ∙ k.there ∙ t ∙ sym (there-dialled step later);
     machine = dialled-machine;
@@ -239,7 +246,8 @@ module _ (a : Made) (L : Log) (name : LinkName) (e : InitEvent) (before later : 
       ∙ ap (initiating_outcome e) (sym answers.0)
 
 -- The machine of a link that was dialled makes a step.
-pub dialled-told : (b : Base) (out : List Action) (s : State) (L : Log) (name : LinkName) (e : InitEvent) (before later : Initiating) (step : InitStep) (ls : Links) (u : Outcome) → initiating_outcome e step ≡ u
+pub dialled-told : (b : Base) (out : List Action) (s : State) (L : Log) (name : LinkName) (e : InitEvent) (before later : Initiating) (step : InitStep) (ls : Links) (u : Outcome)
+    → initiating_outcome e step ≡ u
     → Sets s.links ls name (with_machine_and_peer (dialled_after later step) (dialled_peer step (link_at s.links name).peer) (link_at s.links name)) → Touches s.links ls name
     → (link_at s.links name).machine ≡ Dialled before → is_name name ≡ true → IN.InitiatingAnswers before later e step → may_tell_dialled before.stage e ≡ true → Stands (busy_with name b) out s L
     → HasTold b out (record s { links = ls }) (L ++ initiating name e ∷ []) name u
@@ -289,7 +297,8 @@ module _ (a : Made) (L : Log) (name : LinkName) (e : Event) (before later : Acce
     (h : TakenStands a L name before) (may : may_tell_taken before.stage e ≡ true)
     (answers : (step ≡ AS.step (start a L name) (accepting_events L name) e) × AN.AcceptingStands later (start a L name) (accepting_events L name ++ e ∷ [])) where
   may-taken : may_tell_taken (AN.open_stage (A.standing (accepting_events L name)) (A.question (accepting_events L name))) e ≡ true
-  may-taken = open-taken before.stage (AN.has_closed (start a L name) (accepting_events L name)) (AN.open_stage (A.standing (accepting_events L name)) (A.question (accepting_events L name))) e h.machine.stage may
+  may-taken = open-taken before.stage (AN.has_closed (start a L name) (accepting_events L name))
+      (AN.open_stage (A.standing (accepting_events L name)) (A.question (accepting_events L name))) e h.machine.stage may
 
   taken-stands : AS.closes step ≡ false → TakenStands a (L ++ accepting name e ∷ []) name later
   taken-stands c = record {
@@ -316,7 +325,8 @@ module _ (a : Made) (L : Log) (name : LinkName) (e : Event) (before later : Acce
       ∙ ap (λ st. taken_peer st (who_asked (accepting_events L name))) (sym answers.0)
       ∙ ap (taken_peer step) (sym (ap (λ es. option_or (who_accepted es) (who_asked (accepting_events L name))) h.alone))
 
-  taken-link : (l : Kept) → LinkStands a (Some name) L name l → says_there l.machine ≡ true → LinkStands a (Some name) (L ++ accepting name e ∷ []) name (with_machine_and_peer (taken_after later step) (taken_peer step l.peer) l)
+  taken-link : (l : Kept) → LinkStands a (Some name) L name l → says_there l.machine ≡ true
+      → LinkStands a (Some name) (L ++ accepting name e ∷ []) name (with_machine_and_peer (taken_after later step) (taken_peer step l.peer) l)
   taken-link l k t = record {
     there = there-kept name L (accepting name e) refl refl ∙ k.there ∙ t ∙ sym (there-taken step later);
     machine = taken-machine;
@@ -333,7 +343,8 @@ some-is : {C : Type 0} {x y : C} → Some x ≡ Some y → x ≡ y
 some-is e = cc
 
 -- the machine of a link that was taken
-taken-before : (a : Made) (busy : Option LinkName) (L : Log) (name : LinkName) (machine : Machine) (before : Accepting) → taken_in machine ≡ Some before → MachineStands a busy L name machine → TakenStands a L name before
+taken-before : (a : Made) (busy : Option LinkName) (L : Log) (name : LinkName) (machine : Machine) (before : Accepting) → taken_in machine ≡ Some before → MachineStands a busy L name machine
+    → TakenStands a L name before
 taken-before a busy L name Gone before is h = cc
 taken-before a busy L name Over before is h = cc
 taken-before a busy L name (Dialled m) before is h = cc

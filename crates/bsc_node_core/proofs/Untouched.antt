@@ -1,4 +1,5 @@
 -- What wasn't touched of a state is as in its spare, where a link is touched or the slots are.
+-- It serves clauses of most source files here.
 use Rattle.std.proofs.Common.{Bool, true, cond, ◌&&◌, ap, sym, ◌∙◌}
 use Rattle.std.proofs.lemmas.Bool.{false≢true}
 use Rattle.bsc_direct.specs.declared.direct.Direct.{Direct as SlotTable}

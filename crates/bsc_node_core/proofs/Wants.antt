@@ -1,4 +1,5 @@
 -- What follows where the user of the node wants something, line by line.
+-- It serves clauses of most source files here.
 use Rattle.std.proofs.Common.{◌≡◌, ℕ, zero, suc, Bool, cond, true, false, List, [], ◌∷◌, ◌++◌, Option, Some, None, refl, ap, sym, ◌∙◌, subst, arith}
 use Rattle.bsc_octets.specs.declared.vmac.Vmac.{Vmac}
 use Rattle.bsc_frame.specs.declared.body.Body.{Body}
@@ -57,7 +58,8 @@ way-is L v used r u p = ap (λ x. way_by v used x) p ∙ ap (λ x. way_by v x (p
 
 -- ---- nothing but a word to the user
 
-pub told-stands : (b : Base) (out later : List Action) (s : State) (L : Log) (lines : List Line) (note : Note) → later ≡ out ++ Tell note ∷ [] → lines ≡ did (Tell note) ∷ [] → Stands b out s L → Stands b later s (L ++ lines)
+pub told-stands : (b : Base) (out later : List Action) (s : State) (L : Log) (lines : List Line) (note : Note) → later ≡ out ++ Tell note ∷ [] → lines ≡ did (Tell note) ∷ []
+    → Stands b out s L → Stands b later s (L ++ lines)
 told-stands b out later s L lines note t l h = subst (λ o. Stands b o s (L ++ lines)) (sym t) (subst (λ ms. Stands b (out ++ Tell note ∷ []) s (L ++ ms)) (sym l) (tell-stands b out s L note h))
 
 pub same-lines : (b : Base) (out : List Action) (s : State) (L : Log) (lines others : List Line) → others ≡ lines → Stands b out s (L ++ lines) → Stands b out s (L ++ others)

@@ -1,4 +1,5 @@
 -- The words of a text, read octet by octet.
+-- It serves the clauses of `fail_dial`, `learnt_uri` and `uri_to_dial`.
 use Rattle.std.proofs.Common.{◌≡◌, ℕ, suc, ◌+◌, ◌<◌, ◌≤◌, true, false, List, [], ◌∷◌, ◌++◌, length, drop, take, Option, refl, ap, sym, ◌∙◌, arith}
 use Rattle.std.specs.Prelude.{◌-◌, ◌==◌, filter, slice_get}
 use Rattle.std.proofs.Math.ListN.{get_or}
@@ -73,7 +74,8 @@ at_space text number start end left d r w c =
     ∙ ap (λ cs. uri_after (word_between text start end) cs left) (octet_first text end d w)
     ∙ ap (λ x. uri_after (word_between text start end) (x ∷ drop (end + 1) text) left) c
 
-pub read-next : (text : List ℕ) (number start end left d : ℕ) → IsRead text number start end left → end < length text → get_or text end d ≡ 0x20 → is_ws_uri (word_between text start end) ≡ true → 0 < left
+pub read-next : (text : List ℕ) (number start end left d : ℕ) → IsRead text number start end left → end < length text → get_or text end d ≡ 0x20
+    → is_ws_uri (word_between text start end) ≡ true → 0 < left
     → IsRead text number (end + 1) (end + 1) (left - 1)
 read-next text number start end left d r w c h p =
     let e : left ≡ suc (left - 1) = omega (arith, p) in (

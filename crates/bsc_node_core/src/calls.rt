@@ -11,7 +11,7 @@ ghost use Rattle.bsc_node_core.specs.Resting.{IsAtRestFor};
 ghost use Rattle.bsc_node_core.specs.Node.{NodeAnswers, IsUnchanged, NodeStands};
 
 use crate::actions::Actions;
-use crate::at::At;
+use crate::event_context::EventContext;
 use crate::failing::fail_dial;
 use crate::following::{hear, pass_time};
 use crate::links::Links;
@@ -76,7 +76,7 @@ impl Node {
             → BothStand b out.old self.old.state self.old.resolve L → BothStand b out.new self.new.state self.new.resolve (L ++ follows b.made event.now L)) }
         ensures err { OnErr result (IsUnchangedResolve self.old.resolve self.new.resolve) }
     {
-        let at = At {
+        let at = EventContext {
             alloc,
             limits: &self.limits,
             time: now,
@@ -115,7 +115,7 @@ impl Node {
         self.spare.catch_up(&self.state);
         self.state.touch_nothing();
         let mut out = Actions::new(alloc);
-        self.state.comes(event);
+        self.state.record_event(event);
         match self.follow(&mut out, alloc, now, event) {
             Ok(()) => Ok(out),
             Err(NoMemory) => {

@@ -21,7 +21,7 @@ ghost use Rattle.bsc_node_core.specs.Telling.{busy_with};
 
 use crate::acting::tell;
 use crate::actions::Actions;
-use crate::at::At;
+use crate::event_context::EventContext;
 use crate::state::State;
 use arrayvec::ArrayVec;
 use bsc_accept::Closing;
@@ -94,7 +94,7 @@ impl State {
     pub(crate) fn finish_machine(
         &mut self,
         out: &mut Actions,
-        at: &At,
+        at: &EventContext,
         name: LinkName,
     ) -> Result<(), NoMemory>
         ensures { OnOk result ((b : Base) (L : Log) → b.now ≡ at.now.time → b.busy ≡ None → is_name name ≡ true → Stands b out.old self.old L
@@ -109,7 +109,7 @@ impl State {
     }
 
     /// Dials the primary hub.
-    fn dial_primary(&mut self, out: &mut Actions, at: &At) -> Result<(), NoMemory>
+    fn dial_primary(&mut self, out: &mut Actions, at: &EventContext) -> Result<(), NoMemory>
         ensures { OnOk result ((b : Base) (L : Log) → b.made.limits.times ≡ at.now.limits.now.times → b.now ≡ at.now.time → Stands b out.old self.old L
             → Stands b out.new self.new (L ++ did (Action.Dial (LinkName.Hub Side.Primary) at.now.limits.now.primary) ∷ [])) }
     {
@@ -136,7 +136,7 @@ impl State {
     }
 
     /// Dials the failover. The link of a dropped one, where it is still there, is closed first.
-    fn dial_failover(&mut self, out: &mut Actions, at: &At) -> Result<(), NoMemory>
+    fn dial_failover(&mut self, out: &mut Actions, at: &EventContext) -> Result<(), NoMemory>
         ensures { OnOk result ((b : Base) (L : Log) → b.made.limits.times ≡ at.now.limits.now.times → b.now ≡ at.now.time → Stands b out.old self.old L
             → Stands b out.new self.new (L ++ in_order (when (is_there (LinkName.Hub Side.Failover)) (does (Action.Close (LinkName.Hub Side.Failover) normal))
             ∷ does (Action.Dial (LinkName.Hub Side.Failover) (unwrap_or at.now.limits.now.failover [])) ∷ []) L)) }
@@ -151,7 +151,7 @@ impl State {
     fn try_primary(
         &mut self,
         out: &mut Actions,
-        at: &At,
+        at: &EventContext,
         step: &ConnectorStep,
     ) -> Result<(), NoMemory>
         ensures { OnOk result ((b : Base) (L : Log) → b.made.limits ≡ at.now.limits.now → b.now ≡ at.now.time → newest_step b.made L ≡ step.now
@@ -168,7 +168,7 @@ impl State {
     fn try_failover(
         &mut self,
         out: &mut Actions,
-        at: &At,
+        at: &EventContext,
         step: &ConnectorStep,
     ) -> Result<(), NoMemory>
         ensures { OnOk result ((b : Base) (L : Log) → b.made.limits ≡ at.now.limits.now → b.now ≡ at.now.time → newest_step b.made L ≡ step.now
@@ -197,7 +197,7 @@ impl State {
     fn drop_failover(
         &mut self,
         out: &mut Actions,
-        at: &At,
+        at: &EventContext,
         step: &ConnectorStep,
     ) -> Result<(), NoMemory>
         ensures { OnOk result ((b : Base) (L : Log) → b.now ≡ at.now.time → b.busy ≡ None → newest_step b.made L ≡ step.now
@@ -214,7 +214,7 @@ impl State {
     pub(crate) fn tell_connector(
         &mut self,
         out: &mut Actions,
-        at: &At,
+        at: &EventContext,
         event: ConnectorEvent,
     ) -> Result<(), NoMemory>
         requires { MayCome self.old.connector event }
@@ -240,7 +240,7 @@ impl State {
 
     /// A hub connection is over: it is lost where the side was up, and has failed where an attempt at it was under way.
     /// That of a dropped failover is neither.
-    fn end_hub(&mut self, out: &mut Actions, at: &At, side: Side) -> Result<(), NoMemory>
+    fn end_hub(&mut self, out: &mut Actions, at: &EventContext, side: Side) -> Result<(), NoMemory>
         ensures { OnOk result (FollowsAtRest at.now (λ a. ends_hub a side) out.old self.old out.new self.new) }
     {
         if self.is_dropped(side) {
@@ -286,7 +286,12 @@ impl State {
     }
 
     /// A link is over: its hub connection has ended, or its slot is released.
-    fn end_by(&mut self, out: &mut Actions, at: &At, name: LinkName) -> Result<(), NoMemory>
+    fn end_by(
+        &mut self,
+        out: &mut Actions,
+        at: &EventContext,
+        name: LinkName,
+    ) -> Result<(), NoMemory>
         ensures { OnOk result (FollowsAtRest at.now (λ a. ends_by a name) out.old self.old out.new self.new) }
     {
         match name {
@@ -296,7 +301,12 @@ impl State {
     }
 
     /// What follows where a link is over.
-    pub(crate) fn end(&mut self, out: &mut Actions, at: &At, name: LinkName) -> Result<(), NoMemory>
+    pub(crate) fn end(
+        &mut self,
+        out: &mut Actions,
+        at: &EventContext,
+        name: LinkName,
+    ) -> Result<(), NoMemory>
         ensures { OnOk result (FollowsAtRest at.now (λ a. ends a name) out.old self.old out.new self.new) }
     {
         self.end_by(out, at, name)?;
@@ -307,7 +317,7 @@ impl State {
     pub(crate) fn close_link(
         &mut self,
         out: &mut Actions,
-        at: &At,
+        at: &EventContext,
         name: LinkName,
         closing: Closing,
     ) -> Result<(), NoMemory>
@@ -320,7 +330,12 @@ impl State {
     }
 
     /// Where a link isn't there any more, it is over.
-    fn end_gone(&mut self, out: &mut Actions, at: &At, name: LinkName) -> Result<(), NoMemory>
+    fn end_gone(
+        &mut self,
+        out: &mut Actions,
+        at: &EventContext,
+        name: LinkName,
+    ) -> Result<(), NoMemory>
         ensures { OnOk result ((b : Base) (L : Log) → IsAtRest at.now b → is_name name ≡ true
             → Stands b out.old self.old L
             → Stands b out.new self.new (L ++ either (is_there name) nothing (ends b.made name) L)) }
@@ -333,7 +348,12 @@ impl State {
     }
 
     /// A link that is there is told to finish, and is over where that closed it.
-    fn finish_there(&mut self, out: &mut Actions, at: &At, name: LinkName) -> Result<(), NoMemory>
+    fn finish_there(
+        &mut self,
+        out: &mut Actions,
+        at: &EventContext,
+        name: LinkName,
+    ) -> Result<(), NoMemory>
         ensures { OnOk result ((b : Base) (L : Log) → IsAtRest at.now b → is_name name ≡ true
             → Stands b out.old self.old L
             → Stands b out.new self.new (L ++ in_order (finishes_machine b.made name ∷ either (is_there name) nothing (ends b.made name) ∷ []) L)) }
@@ -346,7 +366,7 @@ impl State {
     pub(crate) fn finish_link(
         &mut self,
         out: &mut Actions,
-        at: &At,
+        at: &EventContext,
         name: LinkName,
     ) -> Result<(), NoMemory>
         ensures { OnOk result ((b : Base) (L : Log) → IsAtRest at.now b → is_name name ≡ true
@@ -361,7 +381,11 @@ impl State {
     }
 
     /// The links of all slots are told to finish, in order.
-    pub(crate) fn finish_slots(&mut self, out: &mut Actions, at: &At) -> Result<(), NoMemory>
+    pub(crate) fn finish_slots(
+        &mut self,
+        out: &mut Actions,
+        at: &EventContext,
+    ) -> Result<(), NoMemory>
         ensures { OnOk result (FollowsAtRest at.now (λ a. in_order (map (λ k. finishes_link a (LinkName.Direct k)) slots))
             out.old self.old out.new self.new) }
     {

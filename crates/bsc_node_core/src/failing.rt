@@ -14,7 +14,7 @@ ghost use Rattle.bsc_node_core.specs.Resting.{IsAtRest};
 
 use crate::acting::tell;
 use crate::actions::Actions;
-use crate::at::At;
+use crate::event_context::EventContext;
 use crate::requesting::learnt_uri;
 use crate::state::State;
 use bsc_direct::SLOTS;
@@ -58,7 +58,7 @@ fn tell_none(out: &mut Actions, k: u32, whom: Option<Vmac>) -> Result<(), NoMemo
 fn give_up(
     state: &mut State,
     out: &mut Actions,
-    at: &At,
+    at: &EventContext,
     k: u32,
     whom: Option<Vmac>,
 ) -> Result<(), NoMemory>
@@ -74,7 +74,7 @@ fn try_next(
     state: &mut State,
     out: &mut Actions,
     resolve: &Resolve,
-    at: &At,
+    at: &EventContext,
     k: u32,
 ) -> Result<(), NoMemory>
     ensures { OnOk result ((b : Base) (L : Log) → IsAtRest at.now b → k < SLOTS
@@ -92,7 +92,7 @@ pub(crate) fn fail_dial(
     state: &mut State,
     out: &mut Actions,
     resolve: &Resolve,
-    at: &At,
+    at: &EventContext,
     name: LinkName,
 ) -> Result<(), NoMemory>
     ensures { OnOk result ((b : Base) (L : Log) → IsAtRest at.now b → is_name name ≡ true

@@ -23,9 +23,9 @@ ghost use Rattle.std.specs.Str.{IsUtf8};
 
 use crate::acting::tell;
 use crate::actions::Actions;
-use crate::at::At;
+use crate::event_context::EventContext;
 use crate::machines::{message_in, origin_in};
-use crate::receiving::take_up;
+use crate::receiving::handle_message;
 use crate::state::State;
 use bsc_accept::Closing;
 use bsc_checks::Verdict;
@@ -37,7 +37,7 @@ use bsc_resolve::Resolve;
 
 impl State {
     /// An event comes.
-    pub(crate) fn comes(&mut self, event: &NodeEvent)
+    pub(crate) fn record_event(&mut self, event: &NodeEvent)
         ensures { (b : Base) (out : List Action) (L : Log) (t : ℕ) → Stands b out self.old L
             → Stands (at_time t b) out self.new (L ++ came (record { now = t; event = event.now }) ∷ []) }
     {
@@ -60,7 +60,7 @@ impl State {
     }
 
     /// A link that arrives gets the lowest free slot, or is refused where all slots are claimed.
-    pub(crate) fn arrive(&mut self, out: &mut Actions, at: &At) -> Result<(), NoMemory>
+    pub(crate) fn arrive(&mut self, out: &mut Actions, at: &EventContext) -> Result<(), NoMemory>
         ensures { OnOk result ((b : Base) (L : Log) → b.made.limits ≡ at.now.limits.now → b.now ≡ at.now.time → Stands b out.old self.old L
             → Stands b out.new self.new (L ++ arrives L)) }
     {
@@ -75,7 +75,7 @@ impl State {
     }
 
     /// Time passes for all machines, and then for the connector.
-    pub(crate) fn tick(&mut self, out: &mut Actions, at: &At) -> Result<(), NoMemory>
+    pub(crate) fn tick(&mut self, out: &mut Actions, at: &EventContext) -> Result<(), NoMemory>
         ensures { OnOk result (FollowsAtRest at.now (λ a. in_order (map (ticks_link a) names
             ++ tells_connector a ConnectorEvent.Tick ∷ [])) out.old self.old out.new self.new) }
     {
@@ -86,7 +86,7 @@ impl State {
     }
 
     /// The node is to end: its links are told to finish.
-    pub(crate) fn finish(&mut self, out: &mut Actions, at: &At) -> Result<(), NoMemory>
+    pub(crate) fn finish(&mut self, out: &mut Actions, at: &EventContext) -> Result<(), NoMemory>
         ensures { OnOk result (FollowsAtRest at.now (λ a. is_to_end a) out.old self.old out.new self.new) }
     {
         self.tell_finished(out)?;
@@ -96,7 +96,7 @@ impl State {
     }
 
     /// The node has the VMAC of the word that was drawn.
-    pub(crate) fn renew(&mut self, out: &mut Actions, at: &At) -> Result<(), NoMemory>
+    pub(crate) fn renew(&mut self, out: &mut Actions, at: &EventContext) -> Result<(), NoMemory>
         ensures { OnOk result (FollowsAtRest at.now (λ a. renews a) out.old self.old out.new self.new) }
     {
         tell(out, Note::Renewed(self.own.vmac))?;
@@ -104,7 +104,7 @@ impl State {
     }
 
     /// No word was drawn: the node keeps its VMAC.
-    pub(crate) fn keep_vmac(&mut self, out: &mut Actions, at: &At) -> Result<(), NoMemory>
+    pub(crate) fn keep_vmac(&mut self, out: &mut Actions, at: &EventContext) -> Result<(), NoMemory>
         ensures { OnOk result (FollowsAtRest at.now (λ a. keeps_vmac a) out.old self.old out.new self.new) }
     {
         tell(out, Note::NoRandom)?;
@@ -117,7 +117,7 @@ pub(crate) fn pass_time(
     state: &mut State,
     out: &mut Actions,
     resolve: &mut Resolve,
-    at: &At,
+    at: &EventContext,
 ) -> Result<(), NoMemory>
     ensures goes { OnOk result ((b : Base) (L : Log) → IsAtRest at.now b → BothStand b out.old state.old resolve.old L
         → BothStand b out.new state.new resolve.new (L ++ time_passes b.made L)) }
@@ -133,7 +133,7 @@ fn obey_heard(
     state: &mut State,
     out: &mut Actions,
     resolve: &mut Resolve,
-    at: &At,
+    at: &EventContext,
     name: LinkName,
     verdict: Verdict,
     step: InitStep,
@@ -150,10 +150,10 @@ fn obey_heard(
     let passed = message_in(verdict);
     match step {
         InitStep::Up => match passed {
-            Some(message) => take_up(state, out, resolve, at, name, message),
+            Some(message) => handle_message(state, out, resolve, at, name, message),
             None => Ok(()),
         },
-        other => state.obey(out, at, name, origin, other),
+        other => state.apply_step(out, at, name, origin, other),
     }
 }
 
@@ -162,7 +162,7 @@ pub(crate) fn hear(
     state: &mut State,
     out: &mut Actions,
     resolve: &mut Resolve,
-    at: &At,
+    at: &EventContext,
     name: LinkName,
     octets: &Octets,
 ) -> Result<(), NoMemory>

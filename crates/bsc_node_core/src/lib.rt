@@ -7,9 +7,9 @@
 
 mod acting;
 mod actions;
-mod at;
 mod calls;
 mod ending;
+mod event_context;
 mod failing;
 mod following;
 mod link;

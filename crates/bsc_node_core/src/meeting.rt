@@ -22,7 +22,7 @@ ghost use Rattle.bsc_node_core.specs.Resting.{FollowsAtRest, IsAtRest};
 
 use crate::acting::tell;
 use crate::actions::Actions;
-use crate::at::At;
+use crate::event_context::EventContext;
 use crate::machine::Machine;
 use crate::machines::as_dialled;
 use crate::state::State;
@@ -49,7 +49,7 @@ impl State {
     fn finish_replaced(
         &mut self,
         out: &mut Actions,
-        at: &At,
+        at: &EventContext,
         replaced: Option<u32>,
     ) -> Result<(), NoMemory>
         ensures { OnOk result ((b : Base) (L : Log) → IsAtRest at.now b → ((k : ℕ)
@@ -63,7 +63,13 @@ impl State {
     }
 
     /// A direct connection is established; the slot that it replaced is told to finish.
-    fn come_up(&mut self, out: &mut Actions, at: &At, k: u32, who: Identity) -> Result<(), NoMemory>
+    fn come_up(
+        &mut self,
+        out: &mut Actions,
+        at: &EventContext,
+        k: u32,
+        who: Identity,
+    ) -> Result<(), NoMemory>
         requires claimed { IsOnlyClaimed self.old.direct k }
         requires unicast { who.vmac ≢ broadcast }
         ensures { OnOk result ((b : Base) (L : Log) (replaced : Option ℕ) → IsAtRest at.now b
@@ -85,7 +91,7 @@ impl State {
     fn meet_dialled(
         &mut self,
         out: &mut Actions,
-        at: &At,
+        at: &EventContext,
         k: u32,
         who: Identity,
     ) -> Result<(), NoMemory>
@@ -152,7 +158,7 @@ impl State {
     fn meet_taken(
         &mut self,
         out: &mut Actions,
-        at: &At,
+        at: &EventContext,
         k: u32,
         machine: Accepting,
         who: Identity,
@@ -181,7 +187,7 @@ impl State {
     fn meet_slot(
         &mut self,
         out: &mut Actions,
-        at: &At,
+        at: &EventContext,
         k: u32,
         who: Identity,
     ) -> Result<(), NoMemory>
@@ -204,7 +210,7 @@ impl State {
     fn meet_direct(
         &mut self,
         out: &mut Actions,
-        at: &At,
+        at: &EventContext,
         k: u32,
         who: Identity,
     ) -> Result<(), NoMemory>
@@ -220,7 +226,7 @@ impl State {
     }
 
     /// The hub of a side has accepted.
-    fn meet_hub(&mut self, out: &mut Actions, at: &At, side: Side) -> Result<(), NoMemory>
+    fn meet_hub(&mut self, out: &mut Actions, at: &EventContext, side: Side) -> Result<(), NoMemory>
         ensures { OnOk result ((b : Base) (L : Log) (who : Identity) → IsAtRest at.now b
             → HasTold b out.old self.old L (LinkName.Hub side) (meets who) → Stands b out.new self.new (L ++ meets_peer b.made (LinkName.Hub side) who L)) }
     {
@@ -235,7 +241,7 @@ impl State {
     pub(crate) fn meet_peer(
         &mut self,
         out: &mut Actions,
-        at: &At,
+        at: &EventContext,
         name: LinkName,
         who: Identity,
     ) -> Result<(), NoMemory>
@@ -285,7 +291,7 @@ impl State {
     pub(crate) fn be_refused(
         &mut self,
         out: &mut Actions,
-        at: &At,
+        at: &EventContext,
         name: LinkName,
         origin: Option<Vmac>,
         code: u16,
@@ -311,7 +317,11 @@ impl State {
     }
 
     /// The link of the hub whose refusal the drawn word answers is over now.
-    pub(crate) fn end_refused(&mut self, out: &mut Actions, at: &At) -> Result<(), NoMemory>
+    pub(crate) fn end_refused(
+        &mut self,
+        out: &mut Actions,
+        at: &EventContext,
+    ) -> Result<(), NoMemory>
         ensures { OnOk result (FollowsAtRest at.now (λ a. ends_refused a) out.old self.old out.new self.new) }
     {
         match self.newest_hub {

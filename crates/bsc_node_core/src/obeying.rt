@@ -17,7 +17,7 @@ ghost use Rattle.bsc_node_core.specs.Standing.{Base, Stands};
 ghost use Rattle.bsc_node_core.specs.Telling.{HasTold};
 
 use crate::actions::Actions;
-use crate::at::At;
+use crate::event_context::EventContext;
 use crate::state::State;
 use bsc_direct::SLOTS;
 use bsc_initiate::InitStep;
@@ -26,10 +26,10 @@ use bsc_octets::{NoMemory, Vmac};
 
 impl State {
     /// What follows from a step that passes no message up: what it puts and closes, and then what that brings about.
-    pub(crate) fn obey(
+    pub(crate) fn apply_step(
         &mut self,
         out: &mut Actions,
-        at: &At,
+        at: &EventContext,
         name: LinkName,
         origin: Option<Vmac>,
         step: InitStep,
@@ -55,7 +55,7 @@ impl State {
     pub(crate) fn open(
         &mut self,
         out: &mut Actions,
-        at: &At,
+        at: &EventContext,
         name: LinkName,
     ) -> Result<(), NoMemory>
         ensures { OnOk result ((b : Base) (L : Log) → IsAtRest at.now b → is_name name ≡ true
@@ -63,14 +63,14 @@ impl State {
             → Stands b out.new self.new (L ++ in_order (opens name ∷ obeys b.made name ∷ []) L)) }
     {
         let step = self.opens(at.time, name);
-        self.obey(out, at, name, None, step)
+        self.apply_step(out, at, name, None, step)
     }
 
     /// The machine of a link that is there is told the time.
     pub(crate) fn tick_link(
         &mut self,
         out: &mut Actions,
-        at: &At,
+        at: &EventContext,
         name: LinkName,
     ) -> Result<(), NoMemory>
         ensures { OnOk result ((b : Base) (L : Log) → IsAtRest at.now b → is_name name ≡ true
@@ -79,14 +79,18 @@ impl State {
     {
         if self.links.is_there(name) {
             let step = self.ticks(at.time, name);
-            self.obey(out, at, name, None, step)
+            self.apply_step(out, at, name, None, step)
         } else {
             Ok(())
         }
     }
 
     /// The machines of the links of all slots are told the time, in order.
-    pub(crate) fn tick_slots(&mut self, out: &mut Actions, at: &At) -> Result<(), NoMemory>
+    pub(crate) fn tick_slots(
+        &mut self,
+        out: &mut Actions,
+        at: &EventContext,
+    ) -> Result<(), NoMemory>
         ensures { OnOk result (FollowsAtRest at.now (λ a. in_order (map (λ k. ticks_link a (LinkName.Direct k)) slots))
             out.old self.old out.new self.new) }
     {

@@ -21,7 +21,7 @@ ghost use Rattle.bsc_node_core.specs.Resolving.{BothStand};
 
 use crate::acting::tell;
 use crate::actions::Actions;
-use crate::at::At;
+use crate::event_context::EventContext;
 use crate::messages::{message_octets, nak};
 use crate::state::State;
 use bsc_connector::HubUse;
@@ -141,7 +141,7 @@ impl State {
     fn answer_question(
         &mut self,
         out: &mut Actions,
-        at: &At,
+        at: &EventContext,
         name: LinkName,
         id: u16,
         dest: Option<Vmac>,
@@ -175,7 +175,7 @@ impl State {
     fn advertise(
         &mut self,
         out: &mut Actions,
-        at: &At,
+        at: &EventContext,
         name: LinkName,
         dest: Option<Vmac>,
     ) -> Result<(), NoMemory>
@@ -328,11 +328,11 @@ fn take_answer(
 }
 
 /// What follows where a message comes for the node.
-pub(crate) fn take_up(
+pub(crate) fn handle_message(
     state: &mut State,
     out: &mut Actions,
     resolve: &mut Resolve,
-    at: &At,
+    at: &EventContext,
     name: LinkName,
     message: Message,
 ) -> Result<(), NoMemory>

@@ -13,7 +13,7 @@ ghost use Rattle.bsc_node_core.specs.Resolving.{BothStand};
 
 use crate::acting::tell;
 use crate::actions::Actions;
-use crate::at::At;
+use crate::event_context::EventContext;
 use crate::messages::message_octets;
 use crate::state::State;
 use crate::uris::uri_to_dial;
@@ -139,7 +139,7 @@ fn ask(
     state: &mut State,
     out: &mut Actions,
     resolve: &mut Resolve,
-    at: &At,
+    at: &EventContext,
     v: Vmac,
     by: Way,
 ) -> Result<(), NoMemory>
@@ -171,7 +171,7 @@ pub(crate) fn resolve_vmac(
     state: &mut State,
     out: &mut Actions,
     resolve: &mut Resolve,
-    at: &At,
+    at: &EventContext,
     v: Vmac,
 ) -> Result<(), NoMemory>
     ensures goes { OnOk result ((b : Base) (L : Log) → b.now ≡ at.now.time
@@ -208,7 +208,7 @@ fn dial_first(
     state: &mut State,
     out: &mut Actions,
     resolve: &Resolve,
-    at: &At,
+    at: &EventContext,
     v: Vmac,
 ) -> Result<(), NoMemory>
     ensures { OnOk result ((b : Base) (L : Log) (text : List ℕ) (free : ℕ) → b.made.limits ≡ at.now.limits.now → b.now ≡ at.now.time
@@ -234,7 +234,7 @@ pub(crate) fn connect_to(
     state: &mut State,
     out: &mut Actions,
     resolve: &Resolve,
-    at: &At,
+    at: &EventContext,
     v: Vmac,
 ) -> Result<(), NoMemory>
     ensures { OnOk result ((b : Base) (L : Log) → b.made.limits ≡ at.now.limits.now → b.now ≡ at.now.time

@@ -1,4 +1,5 @@
 -- What is known of links that are there, and of what is put on them, in every log.
+-- It serves clauses of functions of `laws`.
 use Rattle.std.proofs.Common.{[], sym, subst}
 use Rattle.std.specs.Prelude.{⊤, IsTrue}
 use Rattle.bsc_node.specs.declared.timed_event.TimedEvent.{TimedEvent}

@@ -1,4 +1,5 @@
 -- The octets of a message that was put say that message, and so does what the hub passes on of it.
+-- It serves clauses of functions of `laws`.
 use Rattle.std.proofs.Common.{◌≡◌, ◌<◌, inl, inr, ℕ, Bool, true, false, not, cond, ◌&&◌, List, [], ◌∷◌, ◌++◌, length, Option, Some, None, refl, ap, sym, ◌∙◌, arith}
 use Rattle.std.specs.Prelude.{◌^◌, ◌==◌, if◌then◌else◌, bit_or, bit_and}
 use Rattle.byteorder.specs.Endian.{big_bytes}
@@ -93,7 +94,8 @@ sent_on id v b body = (function_of body ∷ (if b then bit_or 4 8 else bit_and (
 abbrev said_on : ℕ → List ℕ → Bool → Body → Message
 said_on id v b body = record (message id (if b then Some broadcast else None) body) { origin = Some (record { 0 = v }) }
 
-out_is : (id : ℕ) (v dest : List ℕ) (body : Body) → Six dest → out (message_octets id (Some (record { 0 = dest })) body) (record { 0 = v }) ≡ sent_on id v (same_vmac (record { 0 = dest }) broadcast) body
+out_is : (id : ℕ) (v dest : List ℕ) (body : Body) → Six dest → out (message_octets id (Some (record { 0 = dest })) body) (record { 0 = v })
+    ≡ sent_on id v (same_vmac (record { 0 = dest }) broadcast) body
 unfolding out
 out_is id v dest body (six a b c d e f) = refl
 
@@ -129,8 +131,10 @@ nobody_if false x y p q = q
 
 nobody_in : (f : ℕ) (p : List ℕ) → (f == 0x06) ≡ false → (f == 0x07) ≡ false → named_by (body_in f p) ≡ None
 nobody_in f p request accept =
-    nobody_if (f == 0x00) _ _ (λ e. refl) (nobody_if (f == 0x01) _ _ (λ e. refl) (nobody_if (f == 0x02) _ _ (λ e. refl) (nobody_if (f == 0x03) _ _ (λ e. refl) (nobody_if (f == 0x04) _ _ (λ e. refl) (nobody_if (f == 0x05) _ _ (λ e. refl)
-    (nobody_if (f == 0x06) _ _ (λ e. both_ways (f == 0x06) e request) (nobody_if (f == 0x07) _ _ (λ e. both_ways (f == 0x07) e accept) (nobody_if (f == 0x08) _ _ (λ e. refl) (nobody_if (f == 0x09) _ _ (λ e. refl)
+    nobody_if (f == 0x00) _ _ (λ e. refl) (nobody_if (f == 0x01) _ _ (λ e. refl)
+    (nobody_if (f == 0x02) _ _ (λ e. refl) (nobody_if (f == 0x03) _ _ (λ e. refl) (nobody_if (f == 0x04) _ _ (λ e. refl) (nobody_if (f == 0x05) _ _ (λ e. refl)
+    (nobody_if (f == 0x06) _ _ (λ e. both_ways (f == 0x06) e request) (nobody_if (f == 0x07) _ _ (λ e. both_ways (f == 0x07) e accept)
+    (nobody_if (f == 0x08) _ _ (λ e. refl) (nobody_if (f == 0x09) _ _ (λ e. refl)
     (nobody_if (f == 0x0A) _ _ (λ e. refl) (nobody_if (f == 0x0B) _ _ (λ e. refl) refl)))))))))))
 
 pub others_name_nobody : OthersNameNobody

@@ -1,4 +1,5 @@
 -- The link of an established slot is there: it comes up only over a link that is, and is released wherever its link is over.
+-- It serves clauses of functions of `laws`.
 use Rattle.std.proofs.Common.{◌≡◌, ℕ, Bool, true, false, not, cond, ◌||◌, List, [], ◌∷◌, ◌++◌, Option, Some, None, is_some, refl, ap, sym, ◌∙◌, subst}
 use Rattle.std.specs.Prelude.{◌==◌, IsTrue, map}
 use Rattle.std.proofs.lemmas.Bool.{eqb-true}
@@ -30,7 +31,8 @@ use Rattle.bsc_node.specs.Links.{Outcome, puts, puts_and_closes, closes, meets, 
 use Rattle.bsc_node.specs.Hubs.{is_under_way}
 use Rattle.bsc_node.specs.Ways.{awaits_peer, wanted, next_uri, establish, slots_see}
 use Rattle.bsc_node.specs.Ending.{carries_out_by, carries_out, tells_connector, tells_finished, ends, closes_link, finishes_link}
-use Rattle.bsc_node.specs.Meeting.{joins, refuses, wrong_peer, finishes_replaced, comes_up, meets_dialled, meets_taken, meets_slot, meets_direct, meets_peer, tells_refusal, may_draw, is_refused_by, renews, keeps_vmac}
+use Rattle.bsc_node.specs.Meeting.{joins, refuses, wrong_peer, finishes_replaced, comes_up, meets_dialled, meets_taken, meets_slot, meets_direct, meets_peer, tells_refusal}
+use Rattle.bsc_node.specs.Meeting.{may_draw, is_refused_by, renews, keeps_vmac}
 use Rattle.bsc_node.specs.Receiving.{takes_body}
 use Rattle.bsc_node.specs.Requesting.{sends, resolves, solicits, directs}
 use Rattle.bsc_node.specs.Events.{obeys_by, obeys, tries_next, dial_fails, arrives, ticks_link, ticks_resolution, time_passes, is_to_end, follows}
@@ -46,7 +48,9 @@ use Rattle.bsc_node.proofs.Passing.{pass-in_order, pass-either, pass-nothing, pa
 use Rattle.bsc_node_laws.proofs.There.{there-begun}
 use Rattle.bsc_node_identity.proofs.Bare.{bare-arrives, bare-directs, bare-ends, bare-hears, bare-keeps_vmac, bare-renews, bare-tells_connector, bare-tells_finished, bare-ticks, bare-tries_next}
 use Rattle.bsc_lemmas.proofs.Booleans.{and_left, first_of_three, eq_self}
-use Rattle.bsc_node_identity.proofs.Holding.{HeldAt, is_mild, held-more, Mild, Holds, Restores, HoldEach, mild_bare, mild_holds, behind, nothing_more, holds-in_order, restores-then, restores-last, holds-if, same_log, by_name, mild_close, mild_carries_by, mild_carries, restores_ends, restores_ends_named, holds_over, holds_closes_link, holds_finishes_link, mild_takes_body, mild_sends, mild_resolves, mild_solicits}
+use Rattle.bsc_node_identity.proofs.Holding.{HeldAt, is_mild, held-more, Mild, Holds, Restores, HoldEach, mild_bare, mild_holds, behind, nothing_more, holds-in_order}
+use Rattle.bsc_node_identity.proofs.Holding.{restores-then, restores-last, holds-if, same_log, by_name, mild_close, mild_carries_by, mild_carries, restores_ends}
+use Rattle.bsc_node_identity.proofs.Holding.{restores_ends_named, holds_over, holds_closes_link, holds_finishes_link, mild_takes_body, mild_sends, mild_resolves, mild_solicits}
 
 -- ---- a peer has named itself
 
@@ -65,7 +69,8 @@ held_up k j who N there held = by (j == k) refl
 held_comes_up : (k : ℕ) (a : Made) (j : ℕ) (who : Identity) (replaced : Option ℕ) (N : Log) → is_there (Direct j) N ≡ true → HeldAt k N → HeldAt k (N ++ comes_up a j who replaced N)
 held_comes_up k a j who replaced N there held =
     behind k (slots_see (Up j who)) (tells (DirectUp who.vmac) ∷ finishes_replaced a replaced ∷ []) N
-    (holds-in_order k (tells (DirectUp who.vmac) ∷ finishes_replaced a replaced ∷ []) (mild_holds k (tells (DirectUp who.vmac)) (λ M. refl), (holds_finishes_replaced k a replaced, tt)) (N ++ slot (Up j who) ∷ []) (held_up k j who N there held))
+    (holds-in_order k (tells (DirectUp who.vmac) ∷ finishes_replaced a replaced ∷ []) (mild_holds k (tells (DirectUp who.vmac)) (λ M. refl), (holds_finishes_replaced k a replaced, tt))
+    (N ++ slot (Up j who) ∷ []) (held_up k j who N there held))
 
 held_meets_dialled : (k : ℕ) (a : Made) (j : ℕ) (who : Identity) (answer : Establish) (N : Log) → is_there (Direct j) N ≡ true → HeldAt k N → HeldAt k (N ++ meets_dialled a j who answer N)
 held_meets_dialled k a j who (IsUp replaced) N there held = held_comes_up k a j who replaced N there held
@@ -73,7 +78,8 @@ held_meets_dialled k a j who (Duplicate holder) N there held = holds_closes_link
 held_meets_dialled k a j who (WrongPeer v) N there held = holds_closes_link k a (Direct j) wrong_peer N held
 
 -- a peer that is accepted gets its Connect-Accept, and then its slot comes up
-held_accepts : (k : ℕ) (a : Made) (j : ℕ) (who : Identity) (replaced : Option ℕ) (N : Log) → is_there (Direct j) N ≡ true → was_taken (Direct j) N ≡ true → HeldAt k N → HeldAt k (N ++ meets_taken a j who (IsUp replaced) N)
+held_accepts : (k : ℕ) (a : Made) (j : ℕ) (who : Identity) (replaced : Option ℕ) (N : Log) → is_there (Direct j) N ≡ true → was_taken (Direct j) N ≡ true → HeldAt k N
+    → HeldAt k (N ++ meets_taken a j who (IsUp replaced) N)
 held_accepts k a j who replaced N there taken held =
     behind k (joins (Direct j)) (carries_out a (Direct j) ∷ comes_up a j who replaced ∷ []) N
     (behind k (carries_out a (Direct j)) (comes_up a j who replaced ∷ []) joined
@@ -104,11 +110,13 @@ holds_refuses : (k : ℕ) (a : Made) (j : ℕ) → Holds k (in_order (refuses (D
 holds_refuses k a j =
     by_name k (Direct j) (in_order (refuses (Direct j) ∷ carries_out a (Direct j) ∷ ends a (Direct j) ∷ []))
     (λ n. mild_holds k (in_order (refuses (Direct j) ∷ carries_out a (Direct j) ∷ ends a (Direct j) ∷ []))
-    (pass-in_order (is_mild k) (refuses (Direct j) ∷ carries_out a (Direct j) ∷ ends a (Direct j) ∷ []) ((λ N. refl), (mild_carries k a (Direct j) n, (mild_bare k (ends a (Direct j)) (bare-ends a (Direct j)), tt)))))
+    (pass-in_order (is_mild k) (refuses (Direct j) ∷ carries_out a (Direct j) ∷ ends a (Direct j) ∷ [])
+    ((λ N. refl), (mild_carries k a (Direct j) n, (mild_bare k (ends a (Direct j)) (bare-ends a (Direct j)), tt)))))
     (λ is. restores-then k (refuses (Direct j)) (carries_out a (Direct j) ∷ ends a (Direct j) ∷ [])
     (restores-then k (carries_out a (Direct j)) (ends a (Direct j) ∷ []) (restores-last k (ends a (Direct j)) (restores_ends_named k a (Direct j) is))))
 
-held_meets_taken : (k : ℕ) (a : Made) (j : ℕ) (who : Identity) (answer : Establish) (N : Log) → is_there (Direct j) N ≡ true → was_taken (Direct j) N ≡ true → HeldAt k N → HeldAt k (N ++ meets_taken a j who answer N)
+held_meets_taken : (k : ℕ) (a : Made) (j : ℕ) (who : Identity) (answer : Establish) (N : Log) → is_there (Direct j) N ≡ true → was_taken (Direct j) N ≡ true → HeldAt k N
+    → HeldAt k (N ++ meets_taken a j who answer N)
 held_meets_taken k a j who (IsUp replaced) N there taken held = held_accepts k a j who replaced N there taken held
 held_meets_taken k a j who (Duplicate holder) N there taken held = holds_refuses k a j N held
 held_meets_taken k a j who (WrongPeer v) N there taken held = holds_refuses k a j N held
@@ -130,8 +138,17 @@ holds_is_refused_by k a (Hub s) origin code =
 holds_is_refused_by k a (Direct j) origin code =
     by_name k (Direct j) (is_refused_by a (Direct j) origin code)
     (λ n. mild_holds k (is_refused_by a (Direct j) origin code)
-    (pass-in_order (is_mild k) (does (Close (Direct j) normal) ∷ tells_refusal (Direct j) origin code ∷ either (may_draw (Direct j) code) (does Draw) (ends a (Direct j)) ∷ [])
-    (mild_close k (Direct j) normal n, ((λ N. refl), (pass-either (is_mild k) (may_draw (Direct j) code) (does Draw) (ends a (Direct j)) (λ N. refl) (mild_bare k (ends a (Direct j)) (bare-ends a (Direct j))), tt)))))
+    (pass-in_order (is_mild k) (does (Close (Direct j) normal) ∷ tells_refusal (Direct j) origin code ∷ either (may_draw (Direct j) code) (does Draw) (ends a (Direct j)) ∷ []) (
+      mild_close k (Direct j) normal n,
+      (
+        (λ N. refl),
+        (
+          pass-either (is_mild k) (may_draw (Direct j) code) (does Draw) (ends a (Direct j)) (λ N. refl)
+              (mild_bare k (ends a (Direct j)) (bare-ends a (Direct j))),
+          tt,
+        ),
+      ),
+    )))
     (λ is. restores-then k (does (Close (Direct j) normal)) (tells_refusal (Direct j) origin code ∷ either (may_draw (Direct j) code) (does Draw) (ends a (Direct j)) ∷ [])
     (restores-then k (tells_refusal (Direct j) origin code) (either (may_draw (Direct j) code) (does Draw) (ends a (Direct j)) ∷ [])
     (restores-last k (either (may_draw (Direct j) code) (does Draw) (ends a (Direct j))) (restores_ends_named k a (Direct j) is))))
@@ -139,7 +156,8 @@ holds_is_refused_by k a (Direct j) origin code =
 -- ---- what follows from a machine's step, over a link that is there
 
 held_meets_peer : (k : ℕ) (a : Made) (name : LinkName) (who : Identity) (N : Log) → is_there name N ≡ true → HeldAt k N → HeldAt k (N ++ meets_peer a name who N)
-held_meets_peer k a (Hub s) who N there held = mild_holds k (meets_peer a (Hub s) who) (pass-when (is_mild k) (is_under_way a s) (tells_connector a (Connected s)) (mild_bare k (tells_connector a (Connected s)) (bare-tells_connector a (Connected s)))) N held
+held_meets_peer k a (Hub s) who N there held = mild_holds k (meets_peer a (Hub s) who)
+    (pass-when (is_mild k) (is_under_way a s) (tells_connector a (Connected s)) (mild_bare k (tells_connector a (Connected s)) (bare-tells_connector a (Connected s)))) N held
 held_meets_peer k a (Direct j) who N there held = held_meets_direct k a j who N there held
 
 held_obeys_by : (k : ℕ) (a : Made) (name : LinkName) (u : Outcome) (N : Log) → is_there name N ≡ true → HeldAt k N → HeldAt k (N ++ obeys_by a name u N)
@@ -159,14 +177,16 @@ held_told k a name rule N mild there held =
     (subst (HeldAt k) (sym (nothing_more ((N ++ rule N) ++ obeys a name (N ++ rule N)))) (held_obeys_by k a name (outcome a (N ++ rule N) name) (N ++ rule N) there (mild_holds k rule mild N held))))
 
 -- what a machine is told leaves its link there
-pub told_there : (name : LinkName) (N : Log) (dialled : LinkName → InitEvent) (taken : LinkName → Event) (b : Bool) → is_there name N ≡ true → is_there name (N ++ by_machine dialled taken name b) ≡ true
+pub told_there : (name : LinkName) (N : Log) (dialled : LinkName → InitEvent) (taken : LinkName → Event) (b : Bool) → is_there name N ≡ true
+    → is_there name (N ++ by_machine dialled taken name b) ≡ true
 told_there name N dialled taken true h = there-other name N (accepting name (taken name)) refl refl ∙ h
 told_there name N dialled taken false h = there-other name N (initiating name (dialled name)) refl refl ∙ h
 
 holds_ticks_link : (k : ℕ) (a : Made) (name : LinkName) → Holds k (ticks_link a name)
 holds_ticks_link k a name N held =
     holds-if k (is_there name N) (in_order (ticks name ∷ obeys a name ∷ [])) nothing N
-    (λ there. held_told k a name (ticks name) N (mild_bare k (ticks name) (bare-ticks name)) (told_there name N (λ n. InitTick (now N) (next_id N)) (λ n. AcceptTick (now N)) (was_taken name N) there) held)
+    (λ there. held_told k a name (ticks name) N (mild_bare k (ticks name) (bare-ticks name))
+    (told_there name N (λ n. InitTick (now N) (next_id N)) (λ n. AcceptTick (now N)) (was_taken name N) there) held)
     (λ gone. same_log k N held)
 
 hold_mapped : {A : Type 0} (k : ℕ) (rule : A → Rule) (xs : List A) (rules : List Rule) → ((x : A) → Holds k (rule x)) → HoldEach k rules → HoldEach k (map rule xs ++ rules)
@@ -184,7 +204,8 @@ holds_time_passes k a =
     (mild_holds k (tells_connector a ConnectorTick) (mild_bare k (tells_connector a ConnectorTick) (bare-tells_connector a ConnectorTick)), (mild_holds k ticks_resolution (λ N. refl), tt)))
 
 holds_is_to_end : (k : ℕ) (a : Made) → Holds k (is_to_end a)
-holds_is_to_end k a = holds-in_order k (tells_finished ∷ map (finishes_link a) names) (mild_holds k tells_finished (mild_bare k tells_finished bare-tells_finished), hold_all k (finishes_link a) names (holds_finishes_link k a))
+holds_is_to_end k a = holds-in_order k (tells_finished ∷ map (finishes_link a) names)
+    (mild_holds k tells_finished (mild_bare k tells_finished bare-tells_finished), hold_all k (finishes_link a) names (holds_finishes_link k a))
 
 -- ---- a dial fails
 
@@ -219,7 +240,8 @@ module _ (k : ℕ) (a : Made) (L : Log) (e : TimedEvent) (may : IsTrue (may_come
   there_still name ev is over there = there-other name L (came e) refl (ap (is_over_by_event name) is ∙ over) ∙ there
 
   -- what follows where the event is that a link is over
-  over_then : (name : LinkName) (ev : NodeEvent) → e.event ≡ ev → is_over_by_event (Direct k) ev ≡ same_link name (Direct k) → (rule : Rule) → Mild k rule → (name ≡ Direct k → Restores k rule) → HeldAt k (M ++ rule M)
+  over_then : (name : LinkName) (ev : NodeEvent) → e.event ≡ ev → is_over_by_event (Direct k) ev ≡ same_link name (Direct k) → (rule : Rule) → Mild k rule
+      → (name ≡ Direct k → Restores k rule) → HeldAt k (M ++ rule M)
   over_then name ev is same rule mild restores = by (same_link name (Direct k)) refl
     where
       by : (b : Bool) → same_link name (Direct k) ≡ b → HeldAt k (M ++ rule M)
@@ -230,7 +252,8 @@ module _ (k : ℕ) (a : Made) (L : Log) (e : TimedEvent) (may : IsTrue (may_come
   follow Start is = mild_holds k (tells_connector a ConnectorStart) (mild_bare k (tells_connector a ConnectorStart) (bare-tells_connector a ConnectorStart)) M (other Start is refl)
   follow (Opened name) is =
       held_told k a name (opens name) M (λ N. refl)
-      (there-other name M _ refl refl ∙ there_still name (Opened name) is refl (first_of_three (is_there name L) (not (was_taken name L)) (not (has_opened name L)) (fitting (Opened name) is))) (other (Opened name) is refl)
+      (there-other name M _ refl refl ∙ there_still name (Opened name) is refl
+      (first_of_three (is_there name L) (not (was_taken name L)) (not (has_opened name L)) (fitting (Opened name) is))) (other (Opened name) is refl)
   follow (DialFailed name) is =
       over_then name (DialFailed name) is refl (dial_fails a name) (mild_dial_fails k a name) (λ n. subst (λ (x : LinkName). Restores k (dial_fails a x)) (sym n) (restores_tries_next k a))
   follow Arrived is = mild_holds k arrives (mild_bare k arrives bare-arrives) M (other Arrived is refl)

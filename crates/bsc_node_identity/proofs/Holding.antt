@@ -1,4 +1,5 @@
 -- Rules behind which the link of an established slot is there, and those that release the slot where its link is over.
+-- It serves clauses of functions of `laws`.
 use Rattle.std.proofs.Common.{◌≡◌, ℕ, Bool, true, false, not, cond, ◌&&◌, List, [], ◌∷◌, ◌++◌, Option, Some, None, is_some, refl, ap, sym, ◌∙◌, subst}
 use Rattle.std.specs.Prelude.{⊤, ◌==◌}
 use Rattle.std.specs.List.{list_all}
@@ -195,7 +196,8 @@ restores_release k N who h =
 pub restores_ends : (k : ℕ) (a : Made) → Restores k (ends a (Direct k))
 restores_ends k a =
     restores-first k (ends_slot k) (tells_finished ∷ [])
-    (restores-then k (where_found (established_peer k) (λ (who : Identity). tells (DirectDown who.vmac)) nothing) (slots_see (Release k) ∷ []) (restores-last k (slots_see (Release k)) (restores_release k)))
+    (restores-then k (where_found (established_peer k) (λ (who : Identity). tells (DirectDown who.vmac)) nothing) (slots_see (Release k) ∷ [])
+    (restores-last k (slots_see (Release k)) (restores_release k)))
     (mild_holds k tells_finished (mild_bare k tells_finished bare-tells_finished), tt)
 
 pub restores_ends_named : (k : ℕ) (a : Made) (name : LinkName) → name ≡ Direct k → Restores k (ends a name)
@@ -204,7 +206,8 @@ restores_ends_named k a name is = subst (λ (n : LinkName). Restores k (ends a n
 -- what may close the link, and then what follows where it is over
 pub holds_over : (k : ℕ) (a : Made) (name : LinkName) (rule : Rule) → (same_link name (Direct k) ≡ false → Mild k rule) → Holds k (in_order (rule ∷ ends a name ∷ []))
 holds_over k a name rule p =
-    by_name k name (in_order (rule ∷ ends a name ∷ [])) (λ n. mild_holds k (in_order (rule ∷ ends a name ∷ [])) (pass-in_order (is_mild k) (rule ∷ ends a name ∷ []) (p n, (mild_bare k (ends a name) (bare-ends a name), tt))))
+    by_name k name (in_order (rule ∷ ends a name ∷ [])) (λ n. mild_holds k (in_order (rule ∷ ends a name ∷ []))
+    (pass-in_order (is_mild k) (rule ∷ ends a name ∷ []) (p n, (mild_bare k (ends a name) (bare-ends a name), tt))))
     (λ is. restores-then k rule (ends a name ∷ []) (restores-last k (ends a name) (restores_ends_named k a name is)))
 
 pub holds_closes_link : (k : ℕ) (a : Made) (name : LinkName) (closing : Closing) → Holds k (closes_link a name closing)

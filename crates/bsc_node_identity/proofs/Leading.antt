@@ -1,4 +1,5 @@
 -- The way of a message leads to its destination.
+-- It serves the clauses of `direct_puts_are_there` and `ways_lead_there`.
 use Rattle.std.proofs.Common.{◌≡◌, ℕ, true, Option, Some, None, refl, sym, subst}
 use Rattle.std.specs.Option.{option_map}
 use Rattle.bsc_octets.specs.declared.vmac.Vmac.{Vmac}
@@ -27,7 +28,8 @@ peer_at v (Some who) h = (who, refl, vmac_same who.vmac v h)
 this_way : (L : Log) (v : Vmac) (link : LinkName) (dest : Option Vmac) (w : Way) → Some (record { link = link; dest = dest }) ≡ Some w → LeadsTo L v link dest → LeadsTo L v w.link w.dest
 this_way L v link dest w h leads = subst (λ (x : Way). LeadsTo L v x.link x.dest) (some_same (record { link = link; dest = dest }) w h) leads
 
-over_hub : (L : Log) (v : Vmac) (w : Way) (o : Option LinkName) → ((link : LinkName) → o ≡ Some link → LeadsTo L v link (Some v)) → option_map (λ (link : LinkName). record { link = link; dest = Some v }) o ≡ Some w → LeadsTo L v w.link w.dest
+over_hub : (L : Log) (v : Vmac) (w : Way) (o : Option LinkName) → ((link : LinkName) → o ≡ Some link → LeadsTo L v link (Some v))
+    → option_map (λ (link : LinkName). record { link = link; dest = Some v }) o ≡ Some w → LeadsTo L v w.link w.dest
 over_hub L v w None leads h = some_none w (sym h)
 over_hub L v w (Some link) leads h = this_way L v link (Some v) w h (leads link refl)
 

@@ -1,4 +1,5 @@
 -- What one line that has its reason changes of slots, peers and learnt URIs, and what it leaves.
+-- It serves clauses of functions of `laws`.
 use Rattle.std.proofs.Common.{◌≡◌, ◌⊎◌, inl, inr, ℕ, Bool, true, false, cond, List, [], ◌∷◌, ◌++◌, Option, Some, None, is_some, refl, ap, sym, ◌∙◌, subst}
 use Rattle.std.specs.Prelude.{⊤, ◌==◌, if◌then◌else◌}
 use Rattle.std.specs.Option.{option_or, option_and_then}
@@ -82,7 +83,8 @@ up_here a L e N j k x who true is why h =
     inr (subst (λ (y : Identity). WhySlot a L e N (Up k y)) (some_same x who now) (subst (λ (i : ℕ). WhySlot a L e N (Up i x)) (eqb-true j k is) why))
 up_here a L e N j k x who false is why h = inl (peer-beside (slot_calls N) j k x who is h).0
 
-told_slot : (a : Made) (L : Log) (e : TimedEvent) (N : Log) (k : ℕ) (who : Identity) (call : SlotCall) → WhySlot a L e N call → Slots.established_peer (slot_calls N ++ call ∷ []) k ≡ Some who → Stays a L e N k who
+told_slot : (a : Made) (L : Log) (e : TimedEvent) (N : Log) (k : ℕ) (who : Identity) (call : SlotCall) → WhySlot a L e N call
+    → Slots.established_peer (slot_calls N ++ call ∷ []) k ≡ Some who → Stays a L e N k who
 told_slot a L e N k who (Claim j wanted) why h = inl (slot-before (slot_calls N) k (Claim j wanted) who refl (λ w. refl) h)
 told_slot a L e N k who (Release j) why h = inl (slot-before (slot_calls N) k (Release j) who refl (λ w. refl) h)
 told_slot a L e N k who (Up j x) why h = up_here a L e N j k x who (j == k) refl why h
@@ -130,7 +132,8 @@ none-told N other name call id none silent = by (same_link other name) refl
     by false is = ap (first_of (accepts_by id)) (initiating-same name N (initiating other call) refl (ap (λ (d : Bool). cond d (Some call) None) is)) ∙ none
 
 -- Nobody has asked after a machine is told something by which nobody does.
-pub asked-told : (N : Log) (other name : LinkName) (call : Event) → who_asked (accepting_events N name) ≡ None → (other ≡ name → asks_by call ≡ None) → who_asked (accepting_events (N ++ accepting other call ∷ []) name) ≡ None
+pub asked-told : (N : Log) (other name : LinkName) (call : Event) → who_asked (accepting_events N name) ≡ None → (other ≡ name → asks_by call ≡ None)
+    → who_asked (accepting_events (N ++ accepting other call ∷ []) name) ≡ None
 asked-told N other name call none silent = by (same_link other name) refl
   where
     by : (d : Bool) → same_link other name ≡ d → who_asked (accepting_events (N ++ accepting other call ∷ []) name) ≡ None
@@ -166,7 +169,8 @@ asks_then now (Silent check) who h = cc
 asks_then now (Nak check octets) who h = cc
 
 -- Once it is told a message, who accepted is as before, or the one who accepts in it.
-accepted_more : (E : List InitEvent) (now : ℕ) (v : Verdict) → (who_accepted (E ++ InitMessage now v ∷ []) ≡ who_accepted E) ⊎ ((w : Identity) × (who_accepted (E ++ InitMessage now v ∷ []) ≡ Some w) × Accepted v w)
+accepted_more : (E : List InitEvent) (now : ℕ) (v : Verdict) → (who_accepted (E ++ InitMessage now v ∷ []) ≡ who_accepted E)
+    ⊎ ((w : Identity) × (who_accepted (E ++ InitMessage now v ∷ []) ≡ Some w) × Accepted v w)
 accepted_more E now v = by (request E) refl
   where
     F : List InitEvent
@@ -178,19 +182,22 @@ accepted_more E now v = by (request E) refl
     before : (o : Option ℕ) → request E ≡ o → who_accepted E ≡ option_and_then (λ id. first_of (accepts_by id) E) o
     before o is = ap (λ (r : Option ℕ). option_and_then (λ id. first_of (accepts_by id) E) r) is
 
-    newly : (id : ℕ) → request E ≡ Some id → first_of (accepts_by id) E ≡ None → (o : Option Identity) → accepts_by id (InitMessage now v) ≡ o → (who_accepted F ≡ who_accepted E) ⊎ ((w : Identity) × (who_accepted F ≡ Some w) × Accepted v w)
+    newly : (id : ℕ) → request E ≡ Some id → first_of (accepts_by id) E ≡ None → (o : Option Identity) → accepts_by id (InitMessage now v) ≡ o → (who_accepted F ≡ who_accepted E)
+        ⊎ ((w : Identity) × (who_accepted F ≡ Some w) × Accepted v w)
     newly id is none o here =
         let first : first_of (accepts_by id) F ≡ o = first_of-more (accepts_by id) E (InitMessage now v) ∙ ap (λ (p : Option Identity). option_or p (accepts_by id (InitMessage now v))) none ∙ here in
         split o here first
       where
-        split : (o : Option Identity) → accepts_by id (InitMessage now v) ≡ o → first_of (accepts_by id) F ≡ o → (who_accepted F ≡ who_accepted E) ⊎ ((w : Identity) × (who_accepted F ≡ Some w) × Accepted v w)
+        split : (o : Option Identity) → accepts_by id (InitMessage now v) ≡ o → first_of (accepts_by id) F ≡ o → (who_accepted F ≡ who_accepted E)
+            ⊎ ((w : Identity) × (who_accepted F ≡ Some w) × Accepted v w)
         split None here first = inl (found (Some id) is ∙ first ∙ sym none ∙ sym (before (Some id) is))
         split (Some w) here first = inr (w, found (Some id) is ∙ first, accepts_then id now v w here)
 
     by_first : (id : ℕ) → request E ≡ Some id → (o : Option Identity) → first_of (accepts_by id) E ≡ o → (who_accepted F ≡ who_accepted E) ⊎ ((w : Identity) × (who_accepted F ≡ Some w) × Accepted v w)
     by_first id is None none = newly id is none (accepts_by id (InitMessage now v)) refl
     by_first id is (Some x) some =
-        inl (found (Some id) is ∙ first_of-more (accepts_by id) E (InitMessage now v) ∙ ap (λ (p : Option Identity). option_or p (accepts_by id (InitMessage now v))) some ∙ sym some ∙ sym (before (Some id) is))
+        inl (found (Some id) is ∙ first_of-more (accepts_by id) E (InitMessage now v) ∙ ap (λ (p : Option Identity). option_or p (accepts_by id (InitMessage now v))) some ∙ sym some
+        ∙ sym (before (Some id) is))
 
     by : (o : Option ℕ) → request E ≡ o → (who_accepted F ≡ who_accepted E) ⊎ ((w : Identity) × (who_accepted F ≡ Some w) × Accepted v w)
     by None is = inl (found None is ∙ sym (before None is))
@@ -199,11 +206,13 @@ accepted_more E now v = by (request E) refl
 asked_more : (A : List Event) (now : ℕ) (v : Verdict) → (who_asked (A ++ AcceptMessage now v ∷ []) ≡ who_asked A) ⊎ ((w : Identity) × (who_asked (A ++ AcceptMessage now v ∷ []) ≡ Some w) × Asked v w)
 asked_more A now v = by (asks_by (AcceptMessage now v)) refl
   where
-    newly : (w : Identity) → asks_by (AcceptMessage now v) ≡ Some w → (o : Option Identity) → who_asked A ≡ o → (who_asked (A ++ AcceptMessage now v ∷ []) ≡ who_asked A) ⊎ ((x : Identity) × (who_asked (A ++ AcceptMessage now v ∷ []) ≡ Some x) × Asked v x)
+    newly : (w : Identity) → asks_by (AcceptMessage now v) ≡ Some w → (o : Option Identity) → who_asked A ≡ o → (who_asked (A ++ AcceptMessage now v ∷ []) ≡ who_asked A)
+        ⊎ ((x : Identity) × (who_asked (A ++ AcceptMessage now v ∷ []) ≡ Some x) × Asked v x)
     newly w here None none = inr (w, first_of-more asks_by A (AcceptMessage now v) ∙ ap (λ (p : Option Identity). option_or p (asks_by (AcceptMessage now v))) none ∙ here, asks_then now v w here)
     newly w here (Some x) some = inl (first_of-more asks_by A (AcceptMessage now v) ∙ ap (λ (p : Option Identity). option_or p (asks_by (AcceptMessage now v))) some ∙ sym some)
 
-    by : (o : Option Identity) → asks_by (AcceptMessage now v) ≡ o → (who_asked (A ++ AcceptMessage now v ∷ []) ≡ who_asked A) ⊎ ((w : Identity) × (who_asked (A ++ AcceptMessage now v ∷ []) ≡ Some w) × Asked v w)
+    by : (o : Option Identity) → asks_by (AcceptMessage now v) ≡ o → (who_asked (A ++ AcceptMessage now v ∷ []) ≡ who_asked A)
+        ⊎ ((w : Identity) × (who_asked (A ++ AcceptMessage now v ∷ []) ≡ Some w) × Asked v w)
     by None here = inl (same_asked A (AcceptMessage now v) here)
     by (Some w) here = newly w here (who_asked A) refl
 
@@ -216,7 +225,8 @@ Named a L e N name who = (peer N name ≡ Some who) ⊎ IsNamedAt a L e name who
 pub peer_is : (M : Log) (name : LinkName) (E : List InitEvent) (A : List Event) → initiating_events M name ≡ E → accepting_events M name ≡ A → peer M name ≡ option_or (who_accepted E) (who_asked A)
 peer_is M name E A e f = rw (e, f) refl
 
-heard_names : (a : Made) (L : Log) (e : TimedEvent) (N : Log) (name : LinkName) (v : Verdict) (who : Identity) (m : Message) → IsHeard a L e N name v → v ≡ Pass m → named_by m.body ≡ Some who → IsNamedAt a L e name who
+heard_names : (a : Made) (L : Log) (e : TimedEvent) (N : Log) (name : LinkName) (v : Verdict) (who : Identity) (m : Message) → IsHeard a L e N name v → v ≡ Pass m
+    → named_by m.body ≡ Some who → IsNamedAt a L e name who
 heard_names a L e N name v who m heard passed names = (heard.0, m, heard.1, sym heard.2 ∙ passed, names)
 
 -- a dialled link's machine hears a message
@@ -232,7 +242,8 @@ named_by_initiating a L e N name now v who heard h = by (accepted_more E now v)
 
     then_is : option_or (who_accepted (E ++ InitMessage now v ∷ [])) (who_asked A) ≡ Some who
     then_is =
-        sym (peer_is (N ++ initiating name (InitMessage now v) ∷ []) name (E ++ InitMessage now v ∷ []) A (initiating_events-more N name (InitMessage now v)) (accepting-same name N (initiating name (InitMessage now v)) refl refl)) ∙ h
+        sym (peer_is (N ++ initiating name (InitMessage now v) ∷ []) name (E ++ InitMessage now v ∷ []) A (initiating_events-more N name (InitMessage now v))
+        (accepting-same name N (initiating name (InitMessage now v)) refl refl)) ∙ h
 
     by : (who_accepted (E ++ InitMessage now v ∷ []) ≡ who_accepted E) ⊎ ((w : Identity) × (who_accepted (E ++ InitMessage now v ∷ []) ≡ Some w) × Accepted v w) → Named a L e N name who
     by (inl same) = inl (sym (ap (λ (o : Option Identity). option_or o (who_asked A)) same) ∙ then_is)
@@ -253,7 +264,8 @@ named_by_accepting a L e N name now v who heard h = by (asked_more A now v)
 
     then_is : option_or (who_accepted E) (who_asked (A ++ AcceptMessage now v ∷ [])) ≡ Some who
     then_is =
-        sym (peer_is (N ++ accepting name (AcceptMessage now v) ∷ []) name E (A ++ AcceptMessage now v ∷ []) (initiating-same name N (accepting name (AcceptMessage now v)) refl refl) (accepting_events-more N name (AcceptMessage now v))) ∙ h
+        sym (peer_is (N ++ accepting name (AcceptMessage now v) ∷ []) name E (A ++ AcceptMessage now v ∷ []) (initiating-same name N (accepting name (AcceptMessage now v)) refl refl)
+        (accepting_events-more N name (AcceptMessage now v))) ∙ h
 
     first : (w : Identity) → Asked v w → (o : Option Identity) → who_accepted E ≡ o → option_or o (Some w) ≡ Some who → Named a L e N name who
     first w asked None none g = inr (heard_names a L e N name v who asked.0 heard asked.1 (asks_names asked.0.body who (asked.2 ∙ g)))
@@ -265,15 +277,19 @@ named_by_accepting a L e N name now v who heard h = by (asked_more A now v)
         first w (m, passed, asks) (who_accepted E) refl (sym (ap (λ (o : Option Identity). option_or (who_accepted E) o) is) ∙ then_is)
 
 -- a machine is told something that names nobody
-same_initiating : (a : Made) (L : Log) (e : TimedEvent) (N : Log) (name : LinkName) (call : InitEvent) (who : Identity) → who_accepted (initiating_events N name ++ call ∷ []) ≡ who_accepted (initiating_events N name)
+same_initiating : (a : Made) (L : Log) (e : TimedEvent) (N : Log) (name : LinkName) (call : InitEvent) (who : Identity)
+    → who_accepted (initiating_events N name ++ call ∷ []) ≡ who_accepted (initiating_events N name)
     → peer (N ++ initiating name call ∷ []) name ≡ Some who → Named a L e N name who
 same_initiating a L e N name call who same h =
-    inl (sym (peer_is (N ++ initiating name call ∷ []) name (initiating_events N name ++ call ∷ []) (accepting_events N name) (initiating_events-more N name call) (accepting-same name N (initiating name call) refl refl)
+    inl (sym (peer_is (N ++ initiating name call ∷ []) name (initiating_events N name ++ call ∷ []) (accepting_events N name) (initiating_events-more N name call)
+    (accepting-same name N (initiating name call) refl refl)
     ∙ ap (λ (o : Option Identity). option_or o (who_asked (accepting_events N name))) same) ∙ h)
 
-same_accepting : (a : Made) (L : Log) (e : TimedEvent) (N : Log) (name : LinkName) (call : Event) (who : Identity) → asks_by call ≡ None → peer (N ++ accepting name call ∷ []) name ≡ Some who → Named a L e N name who
+same_accepting : (a : Made) (L : Log) (e : TimedEvent) (N : Log) (name : LinkName) (call : Event) (who : Identity) → asks_by call ≡ None
+    → peer (N ++ accepting name call ∷ []) name ≡ Some who → Named a L e N name who
 same_accepting a L e N name call who none h =
-    inl (sym (peer_is (N ++ accepting name call ∷ []) name (initiating_events N name) (accepting_events N name ++ call ∷ []) (initiating-same name N (accepting name call) refl refl) (accepting_events-more N name call)
+    inl (sym (peer_is (N ++ accepting name call ∷ []) name (initiating_events N name) (accepting_events N name ++ call ∷ []) (initiating-same name N (accepting name call) refl refl)
+    (accepting_events-more N name call)
     ∙ ap (λ (o : Option Identity). option_or (who_accepted (initiating_events N name)) o) (same_asked (accepting_events N name) call none)) ∙ h)
 
 -- A line that says nothing to the link's machine leaves its peer as it was; and so does that who asked has joined.
@@ -282,7 +298,8 @@ peer-silent N m name b i j = peer_is (N ++ m ∷ []) name (initiating_events N n
 
 pub peer-joined : (N : Log) (name : LinkName) → peer (N ++ accepting name Joined ∷ []) name ≡ peer N name
 peer-joined N name =
-    peer_is (N ++ accepting name Joined ∷ []) name (initiating_events N name) (accepting_events N name ++ Joined ∷ []) (initiating-same name N (accepting name Joined) refl refl) (accepting_events-more N name Joined)
+    peer_is (N ++ accepting name Joined ∷ []) name (initiating_events N name) (accepting_events N name ++ Joined ∷ []) (initiating-same name N (accepting name Joined) refl refl)
+    (accepting_events-more N name Joined)
     ∙ ap (λ (o : Option Identity). option_or (who_accepted (initiating_events N name)) o) (same_asked (accepting_events N name) Joined refl)
 
 -- a line that says nothing to the link's machine
@@ -296,25 +313,29 @@ opened_none : (E : List InitEvent) (now id : ℕ) → NoneAccepts E → who_acce
 opened_none E now id none =
     none_accepted (E ++ MachineOpened now id ∷ []) (λ i. first_of-more (accepts_by i) E (MachineOpened now id) ∙ ap (λ (o : Option Identity). option_or o None) (none i)) ∙ sym (none_accepted E none)
 
-told_initiating : (a : Made) (L : Log) (e : TimedEvent) (N : Log) (name : LinkName) (call : InitEvent) (who : Identity) → (is_opening call ≡ true → NoneAccepts (initiating_events N name)) → Why a L e N (initiating name call)
+told_initiating : (a : Made) (L : Log) (e : TimedEvent) (N : Log) (name : LinkName) (call : InitEvent) (who : Identity) → (is_opening call ≡ true → NoneAccepts (initiating_events N name))
+    → Why a L e N (initiating name call)
     → peer (N ++ initiating name call ∷ []) name ≡ Some who → Named a L e N name who
 told_initiating a L e N name (MachineOpened now id) who none why h = same_initiating a L e N name (MachineOpened now id) who (opened_none (initiating_events N name) now id (none refl)) h
 told_initiating a L e N name (InitMessage now v) who none why h = named_by_initiating a L e N name now v who why.0 h
 told_initiating a L e N name (InitFinish now id) who none why h = same_initiating a L e N name (InitFinish now id) who (same_accepted (initiating_events N name) (InitFinish now id) refl (λ i. refl)) h
 told_initiating a L e N name (InitTick now id) who none why h = same_initiating a L e N name (InitTick now id) who (same_accepted (initiating_events N name) (InitTick now id) refl (λ i. refl)) h
 
-told_accepting : (a : Made) (L : Log) (e : TimedEvent) (N : Log) (name : LinkName) (call : Event) (who : Identity) → Why a L e N (accepting name call) → peer (N ++ accepting name call ∷ []) name ≡ Some who → Named a L e N name who
+told_accepting : (a : Made) (L : Log) (e : TimedEvent) (N : Log) (name : LinkName) (call : Event) (who : Identity) → Why a L e N (accepting name call)
+    → peer (N ++ accepting name call ∷ []) name ≡ Some who → Named a L e N name who
 told_accepting a L e N name (AcceptMessage now v) who why h = named_by_accepting a L e N name now v who why.0 h
 told_accepting a L e N name call who why h = same_accepting a L e N name call who refl h
 
 -- A link's peer after a line that doesn't begin it was its peer before, or names itself just now.
-pub peer-before : (a : Made) (L : Log) (e : TimedEvent) (N : Log) (m : Line) (name : LinkName) (who : Identity) → OpensUnaccepted N m → begins name m ≡ false → Why a L e N m → peer (N ++ m ∷ []) name ≡ Some who → Named a L e N name who
+pub peer-before : (a : Made) (L : Log) (e : TimedEvent) (N : Log) (m : Line) (name : LinkName) (who : Identity) → OpensUnaccepted N m → begins name m ≡ false → Why a L e N m
+    → peer (N ++ m ∷ []) name ≡ Some who → Named a L e N name who
 peer-before a L e N (initiating other call) name who none b why h = by (same_link other name) refl
   where
     by : (d : Bool) → same_link other name ≡ d → Named a L e N name who
     by true is =
         let same : other ≡ name = same_link-true other name is in
-        told_initiating a L e N name call who (subst (λ (n : LinkName). is_opening call ≡ true → NoneAccepts (initiating_events N n)) same none) (subst (λ (n : LinkName). Why a L e N (initiating n call)) same why)
+        told_initiating a L e N name call who (subst (λ (n : LinkName). is_opening call ≡ true → NoneAccepts (initiating_events N n)) same none)
+        (subst (λ (n : LinkName). Why a L e N (initiating n call)) same why)
         (subst (λ (n : LinkName). peer (N ++ initiating n call ∷ []) name ≡ Some who) same h)
     by false is = same_silent a L e N (initiating other call) name who b (ap (λ (d : Bool). cond d (Some call) None) is) refl h
 peer-before a L e N (accepting other call) name who none b why h = by (same_link other name) refl
@@ -337,7 +358,8 @@ learnt_here : (a : Made) (L : Log) (e : TimedEvent) (N : Log) (v w : Vmac) (said
 learnt_here a L e N v w said uris true is why h = inr (subst (λ (x : Vmac). IsAnsweredAt a L e x uris) (sym (vmac_same v w is)) (subst (IsAnsweredAt a L e w) (some_same said uris h) why))
 learnt_here a L e N v w said uris false is why h = inl h
 
-learnt_call : (a : Made) (L : Log) (e : TimedEvent) (N : Log) (call : ResolveCall) (v : Vmac) (uris : List ℕ) → Why a L e N (resolution call) → option_or (uris_for v call) (learnt v N) ≡ Some uris → (learnt v N ≡ Some uris) ⊎ IsAnsweredAt a L e v uris
+learnt_call : (a : Made) (L : Log) (e : TimedEvent) (N : Log) (call : ResolveCall) (v : Vmac) (uris : List ℕ) → Why a L e N (resolution call)
+    → option_or (uris_for v call) (learnt v N) ≡ Some uris → (learnt v N ≡ Some uris) ⊎ IsAnsweredAt a L e v uris
 learnt_call a L e N (Answered id w said) v uris why h = learnt_here a L e N v w said uris (same_vmac v w) refl why h
 learnt_call a L e N (Ask now id w) v uris why h = inl h
 learnt_call a L e N (RefusedCall id w) v uris why h = inl h
@@ -350,7 +372,8 @@ pub learnt-event : (L : Log) (e : TimedEvent) (v : Vmac) → learnt v (with_even
 learnt-event L e v = ap (λ (calls : List ResolveCall). Resolving.learnt calls v) (resolve_calls-same L (came e) refl)
 
 -- URIs that are learnt after a line were so before it, or are said just now.
-pub learnt-before : (a : Made) (L : Log) (e : TimedEvent) (N : Log) (m : Line) (v : Vmac) (uris : List ℕ) → Why a L e N m → learnt v (N ++ m ∷ []) ≡ Some uris → (learnt v N ≡ Some uris) ⊎ IsAnsweredAt a L e v uris
+pub learnt-before : (a : Made) (L : Log) (e : TimedEvent) (N : Log) (m : Line) (v : Vmac) (uris : List ℕ) → Why a L e N m → learnt v (N ++ m ∷ []) ≡ Some uris → (learnt v N ≡ Some uris)
+    ⊎ IsAnsweredAt a L e v uris
 learnt-before a L e N (resolution call) v uris why h =
     learnt_call a L e N call v uris why (sym (ap (λ (calls : List ResolveCall). Resolving.learnt calls v) (resolve_calls-more N call) ∙ learnt-more (resolve_calls N) call v) ∙ h)
 learnt-before a L e N (came other) v uris why h = inl (learnt_same N (came other) v uris refl h)

@@ -1,4 +1,5 @@
 -- Where a machine says that a peer has named itself, the message that it heard says so.
+-- It serves clauses of functions of `laws`.
 use Rattle.std.proofs.Common.{◌≡◌, ℕ, Bool, true, false, cond, List, ◌++◌, Option, Some, None, refl, ap, sym, ◌∙◌}
 use Rattle.std.specs.Prelude.{◌==◌}
 use Rattle.std.proofs.lemmas.Bool.{eqb-true}
@@ -54,13 +55,15 @@ accepted_awaiting : (now id : ℕ) (m : Message) (who : Identity) (b : Bool) →
 accepted_awaiting now id m who true same h = accepted_answer now m who (awaiting_accept id) (who_accepts m.body) (refusing_code m.body) (ap awaiting_accept (sym (eqb-true m.id id same))) refl h
 accepted_awaiting now id m who false same h = cc
 
-accepted_connected : (now : ℕ) (m : Message) (who : Identity) (id : ℕ) (body : Body) → initiating_outcome (InitMessage now (Pass m)) (connected_step id body) ≡ meets who → Accepts (Pass m) connected who
+accepted_connected : (now : ℕ) (m : Message) (who : Identity) (id : ℕ) (body : Body) → initiating_outcome (InitMessage now (Pass m)) (connected_step id body) ≡ meets who
+    → Accepts (Pass m) connected who
 accepted_connected now m who id HeartbeatRequest h = cc
 accepted_connected now m who id DisconnectRequest h = cc
 accepted_connected now m who id HeartbeatAck h = cc
 accepted_connected now m who id body h = cc
 
-accepted_disconnecting : (now : ℕ) (m : Message) (who : Identity) (g : Standing) (b : Bool) → initiating_outcome (InitMessage now (Pass m)) (cond b (InitClose AcceptingSteps.normal) InitNothing) ≡ meets who → Accepts (Pass m) g who
+accepted_disconnecting : (now : ℕ) (m : Message) (who : Identity) (g : Standing) (b : Bool)
+    → initiating_outcome (InitMessage now (Pass m)) (cond b (InitClose AcceptingSteps.normal) InitNothing) ≡ meets who → Accepts (Pass m) g who
 accepted_disconnecting now m who g true h = cc
 accepted_disconnecting now m who g false h = cc
 
@@ -83,12 +86,14 @@ asked_asking : (now : ℕ) (m : Message) (who : Identity) (o : Option Identity) 
 asked_asking now m who (Some x) is h = (m, refl, refl, is ∙ same_who x who h)
 asked_asking now m who None is h = cc
 
-asked_connected : (now : ℕ) (m : Message) (who : Identity) (id : ℕ) (body : Body) → accepting_outcome Accepting.connected (AcceptMessage now (Pass m)) (AcceptingSteps.connected_step id body) ≡ meets who → Asks (Pass m) Accepting.connected who
+asked_connected : (now : ℕ) (m : Message) (who : Identity) (id : ℕ) (body : Body)
+    → accepting_outcome Accepting.connected (AcceptMessage now (Pass m)) (AcceptingSteps.connected_step id body) ≡ meets who → Asks (Pass m) Accepting.connected who
 asked_connected now m who id HeartbeatRequest h = cc
 asked_connected now m who id DisconnectRequest h = cc
 asked_connected now m who id body h = cc
 
-asked_disconnecting : (now : ℕ) (m : Message) (who : Identity) (g : Accepting.Standing) (b : Bool) → accepting_outcome g (AcceptMessage now (Pass m)) (cond b (StepClose AcceptingSteps.normal) StepNothing) ≡ meets who → Asks (Pass m) g who
+asked_disconnecting : (now : ℕ) (m : Message) (who : Identity) (g : Accepting.Standing) (b : Bool)
+    → accepting_outcome g (AcceptMessage now (Pass m)) (cond b (StepClose AcceptingSteps.normal) StepNothing) ≡ meets who → Asks (Pass m) g who
 asked_disconnecting now m who g true h = cc
 asked_disconnecting now m who Accepting.awaiting_request false h = cc
 asked_disconnecting now m who Accepting.connected false h = cc
@@ -110,20 +115,23 @@ asked_heard now (Nak check octets) who g h = cc
 -- ---- over a link
 
 -- Who is met over a link that was dialled accepts in the message that came; over one that was taken, asks in it.
-pub met-dialled : (a : Made) (name : LinkName) (o : List ℕ) (M : Log) (who : Identity) → was_taken name M ≡ false → outcome a (M ++ hears a name o M) name ≡ meets who → Accepts (verdict a M name o) (standing (initiating_events M name)) who
+pub met-dialled : (a : Made) (name : LinkName) (o : List ℕ) (M : Log) (who : Identity) → was_taken name M ≡ false → outcome a (M ++ hears a name o M) name ≡ meets who
+    → Accepts (verdict a M name o) (standing (initiating_events M name)) who
 met-dialled a name o M who t h =
     accepted_heard (now M) (verdict a M name o) who (standing (initiating_events M name))
     (sym (ap (λ (b : Bool). outcome a (M ++ by_machine (λ n. InitMessage (now M) (verdict a M n o)) (λ n. AcceptMessage (now M) (verdict a M n o)) name b) name) t
     ∙ outcome-initiating a M name (InitMessage (now M) (verdict a M name o)) t) ∙ h)
 
-pub met-taken : (a : Made) (name : LinkName) (o : List ℕ) (M : Log) (who : Identity) → was_taken name M ≡ true → outcome a (M ++ hears a name o M) name ≡ meets who → Asks (verdict a M name o) (Accepting.standing (accepting_events M name)) who
+pub met-taken : (a : Made) (name : LinkName) (o : List ℕ) (M : Log) (who : Identity) → was_taken name M ≡ true → outcome a (M ++ hears a name o M) name ≡ meets who
+    → Asks (verdict a M name o) (Accepting.standing (accepting_events M name)) who
 met-taken a name o M who t h =
     asked_heard (now M) (verdict a M name o) who (Accepting.standing (accepting_events M name))
     (sym (ap (λ (b : Bool). outcome a (M ++ by_machine (λ n. InitMessage (now M) (verdict a M n o)) (λ n. AcceptMessage (now M) (verdict a M n o)) name b) name) t
     ∙ outcome-accepting a M name (AcceptMessage (now M) (verdict a M name o)) t) ∙ h)
 
 -- Who is met names itself in the message that came.
-pub met-named : (a : Made) (name : LinkName) (o : List ℕ) (M : Log) (who : Identity) → outcome a (M ++ hears a name o M) name ≡ meets who → (m : Message) × (verdict a M name o ≡ Pass m) × (named_by m.body ≡ Some who)
+pub met-named : (a : Made) (name : LinkName) (o : List ℕ) (M : Log) (who : Identity) → outcome a (M ++ hears a name o M) name ≡ meets who → (m : Message) × (verdict a M name o ≡ Pass m)
+    × (named_by m.body ≡ Some who)
 met-named a name o M who h = by (was_taken name M) refl
   where
     by : (b : Bool) → was_taken name M ≡ b → (m : Message) × (verdict a M name o ≡ Pass m) × (named_by m.body ≡ Some who)

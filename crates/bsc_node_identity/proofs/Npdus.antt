@@ -1,4 +1,5 @@
 -- What passes with an NPDU is an Encapsulated-NPDU, and what a hub passes on is one where what came was.
+-- It serves bsc_network_laws and bsc_network_of_runs.
 use Rattle.std.proofs.Common.{◌≡◌, ℕ, Bool, true, false, cond, List, refl, ap, ◌∙◌}
 use Rattle.std.specs.Prelude.{◌==◌}
 use Rattle.bsc_octets.specs.declared.vmac.Vmac.{Vmac}
@@ -22,7 +23,8 @@ no-if false x y p q = q
 
 no_npdu_in : (f : ℕ) (p : List ℕ) → (f == 0x01) ≡ false → is_npdu_body (body_in f p) ≡ false
 no_npdu_in f p npdu =
-    no-if (f == 0x00) _ _ (λ e. refl) (no-if (f == 0x01) _ _ (λ e. both_ways (f == 0x01) e npdu) (no-if (f == 0x02) _ _ (λ e. refl) (no-if (f == 0x03) _ _ (λ e. refl) (no-if (f == 0x04) _ _ (λ e. refl) (no-if (f == 0x05) _ _ (λ e. refl)
+    no-if (f == 0x00) _ _ (λ e. refl) (no-if (f == 0x01) _ _ (λ e. both_ways (f == 0x01) e npdu)
+    (no-if (f == 0x02) _ _ (λ e. refl) (no-if (f == 0x03) _ _ (λ e. refl) (no-if (f == 0x04) _ _ (λ e. refl) (no-if (f == 0x05) _ _ (λ e. refl)
     (no-if (f == 0x06) _ _ (λ e. refl) (no-if (f == 0x07) _ _ (λ e. refl) (no-if (f == 0x08) _ _ (λ e. refl) (no-if (f == 0x09) _ _ (λ e. refl)
     (no-if (f == 0x0A) _ _ (λ e. refl) (no-if (f == 0x0B) _ _ (λ e. refl) refl)))))))))))
 

@@ -1,4 +1,5 @@
 -- What is delivered of an NPDU that a hub passed on, and to whom it went.
+-- It serves bsc_network_laws and bsc_network_of_runs.
 use Rattle.std.proofs.Common.{◌≡◌, ◌<◌, ℕ, Bool, true, false, not, cond, List, length, Option, Some, None, refl, ap, sym, subst, ◌∙◌}
 use Rattle.std.specs.Prelude.{◌==◌, ◌^◌}
 use Rattle.std.specs.Option.{option_map, option_or}
@@ -35,8 +36,10 @@ dest_said : (id : ℕ) (dest npdu : List ℕ) → Six dest → destination (mess
 dest_said id dest npdu (six a b c d e f) = refl
 
 -- what is meant for a connection is for all, or for its address
-pub is_for : (frame : List ℕ) (sender id : ℕ) (dest : Vmac) (npdu : List ℕ) (to : Connection) → frame ≡ message_octets id (Some dest) (Npdu npdu) → length dest.0 ≡ 6 → means frame sender to ≡ true → IsFor (same_vmac dest broadcast) dest to.who.vmac
-is_for frame sender id dest npdu to is whole meant = by (same_vmac dest broadcast) refl (subst (λ (v : Vmac). cond (same_vmac v broadcast) (not (to.number == sender)) (same_vmac to.who.vmac v) ≡ true) said meant)
+pub is_for : (frame : List ℕ) (sender id : ℕ) (dest : Vmac) (npdu : List ℕ) (to : Connection) → frame ≡ message_octets id (Some dest) (Npdu npdu) → length dest.0 ≡ 6
+    → means frame sender to ≡ true → IsFor (same_vmac dest broadcast) dest to.who.vmac
+is_for frame sender id dest npdu to is whole meant = by (same_vmac dest broadcast) refl
+    (subst (λ (v : Vmac). cond (same_vmac v broadcast) (not (to.number == sender)) (same_vmac to.who.vmac v) ≡ true) said meant)
   where
     said : destination frame ≡ dest
     said = ap destination is ∙ dest_said id dest.0 npdu (six_of dest.0 whole)

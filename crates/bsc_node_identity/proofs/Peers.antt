@@ -1,4 +1,5 @@
 -- A slot is established with the peer of its link, after all events that may come.
+-- It serves the clauses of `npdus_pass_where_up` and `slots_have_their_peers`.
 use Rattle.std.proofs.Common.{◌≡◌, ℕ, Bool, true, false, List, [], ◌++◌, Some, refl, ap, ◌∙◌}
 use Rattle.std.specs.Prelude.{◌==◌, IsTrue}
 use Rattle.std.proofs.lemmas.Bool.{eqb-true}

@@ -1,5 +1,6 @@
 -- What a node puts on a direct link goes over one that is there: the step of a machine of a link that is, the answer to what came over it,
 -- or a message on the way of an established slot.
+-- It serves the clauses of `direct_puts_are_there`.
 use Rattle.std.proofs.Common.{◌≡◌, ℕ, Bool, true, false, not, ◌||◌, List, [], ◌∷◌, ◌++◌, Option, Some, None, refl, ap, sym, ◌∙◌, subst}
 use Rattle.std.specs.Prelude.{⊤, IsTrue, map}
 use Rattle.bsc_octets.specs.declared.vmac.Vmac.{Vmac}
@@ -46,7 +47,8 @@ use Rattle.bsc_node.proofs.There.{there-other}
 use Rattle.bsc_node.proofs.Following.{goes_on-is}
 use Rattle.bsc_node.proofs.Lasting.{event_fits}
 use Rattle.bsc_node.proofs.Passing.{Passes, pass-weaker, pass-in_order, pass-either, pass-nothing, pass-when}
-use Rattle.bsc_node_identity.proofs.Bare.{Bare, is_bare, bare-arrives, bare-directs, bare-ends, bare-finishes, bare-hears, bare-keeps_vmac, bare-learns, bare-renews, bare-takes_answer, bare-tells_connector, bare-tells_finished, bare-ticks, bare-tries_next}
+use Rattle.bsc_node_identity.proofs.Bare.{Bare, is_bare, bare-arrives, bare-directs, bare-ends, bare-finishes, bare-hears, bare-keeps_vmac, bare-learns, bare-renews}
+use Rattle.bsc_node_identity.proofs.Bare.{bare-takes_answer, bare-tells_connector, bare-tells_finished, bare-ticks, bare-tries_next}
 use Rattle.bsc_node_identity.proofs.OneMore.{established-same}
 use Rattle.bsc_lemmas.proofs.Booleans.{and_left, first_of_three}
 use Rattle.bsc_node_identity.specs.There.{DirectPutsAreThere}
@@ -140,7 +142,8 @@ each_finishes_machine a name N =
     each-when PutsThere (is_there name) (in_order (finishes name ∷ carries_out a name ∷ [])) N
     (λ there. each-cons PutsThere (finishes name) (carries_out a name ∷ []) N (each_bare (finishes name) (bare-finishes name) N)
     (each-last PutsThere (carries_out a name) (N ++ finishes name N)
-    (each_carries_by name (outcome a (N ++ finishes name N) name) (N ++ finishes name N) (told_there name N (λ n. InitFinish (now N) (next_id N)) (λ n. AcceptFinish (now N) (next_id N)) (was_taken name N) there))))
+    (each_carries_by name (outcome a (N ++ finishes name N) name) (N ++ finishes name N)
+    (told_there name N (λ n. InitFinish (now N) (next_id N)) (λ n. AcceptFinish (now N) (next_id N)) (was_taken name N) there))))
 
 each_finishes_link : (a : Made) (name : LinkName) (N : Log) → EachHas PutsThere N (finishes_link a name N)
 each_finishes_link a name N =
@@ -159,7 +162,8 @@ each_comes_up : (a : Made) (j : ℕ) (who : Identity) (replaced : Option ℕ) (N
 each_comes_up a j who replaced N =
     each-cons PutsThere (slots_see (Up j who)) (tells (DirectUp who.vmac) ∷ finishes_replaced a replaced ∷ []) N (tt, tt)
     (each-cons PutsThere (tells (DirectUp who.vmac)) (finishes_replaced a replaced ∷ []) (N ++ slot (Up j who) ∷ []) (tt, tt)
-    (each-last PutsThere (finishes_replaced a replaced) ((N ++ slot (Up j who) ∷ []) ++ did (Tell (DirectUp who.vmac)) ∷ []) (each_finishes_replaced a replaced ((N ++ slot (Up j who) ∷ []) ++ did (Tell (DirectUp who.vmac)) ∷ []))))
+    (each-last PutsThere (finishes_replaced a replaced) ((N ++ slot (Up j who) ∷ []) ++ did (Tell (DirectUp who.vmac)) ∷ [])
+    (each_finishes_replaced a replaced ((N ++ slot (Up j who) ∷ []) ++ did (Tell (DirectUp who.vmac)) ∷ []))))
 
 each_meets_dialled : (a : Made) (j : ℕ) (who : Identity) (answer : Establish) (N : Log) → EachHas PutsThere N (meets_dialled a j who answer N)
 each_meets_dialled a j who (IsUp replaced) N = each_comes_up a j who replaced N
@@ -167,10 +171,12 @@ each_meets_dialled a j who (Duplicate holder) N = each_silent (closes_link a (Di
 each_meets_dialled a j who (WrongPeer v) N = each_silent (closes_link a (Direct j) wrong_peer) (silent_closes_link a (Direct j) wrong_peer) N
 
 -- a machine is told something, and what it puts is carried out, and then more
-each_answered : (a : Made) (j : ℕ) (m : Event) (rules : List Rule) (N : Log) → is_there (Direct j) N ≡ true → ((M : Log) → EachHas PutsThere M (in_order rules M)) → EachHas PutsThere N (in_order ((λ L. accepting (Direct j) m ∷ []) ∷ carries_out a (Direct j) ∷ rules) N)
+each_answered : (a : Made) (j : ℕ) (m : Event) (rules : List Rule) (N : Log) → is_there (Direct j) N ≡ true → ((M : Log) → EachHas PutsThere M (in_order rules M))
+    → EachHas PutsThere N (in_order ((λ L. accepting (Direct j) m ∷ []) ∷ carries_out a (Direct j) ∷ rules) N)
 each_answered a j m rules N there more =
     each-cons PutsThere (λ L. accepting (Direct j) m ∷ []) (carries_out a (Direct j) ∷ rules) N (tt, tt)
-    (each-cons PutsThere (carries_out a (Direct j)) rules told_log (each_carries_by (Direct j) (outcome a told_log (Direct j)) told_log (there-other (Direct j) N (accepting (Direct j) m) refl refl ∙ there)) (more (told_log ++ carries_out a (Direct j) told_log)))
+    (each-cons PutsThere (carries_out a (Direct j)) rules told_log (each_carries_by (Direct j) (outcome a told_log (Direct j)) told_log
+    (there-other (Direct j) N (accepting (Direct j) m) refl refl ∙ there)) (more (told_log ++ carries_out a (Direct j) told_log)))
   where
     told_log : Log
     told_log = N ++ accepting (Direct j) m ∷ []
@@ -179,7 +185,8 @@ each_refused : (a : Made) (j : ℕ) (N : Log) → is_there (Direct j) N ≡ true
 each_refused a j N there = each_answered a j _ (ends a (Direct j) ∷ []) N there (λ M. each-last PutsThere (ends a (Direct j)) M (each_bare (ends a (Direct j)) (bare-ends a (Direct j)) M))
 
 each_meets_taken : (a : Made) (j : ℕ) (who : Identity) (answer : Establish) (N : Log) → is_there (Direct j) N ≡ true → EachHas PutsThere N (meets_taken a j who answer N)
-each_meets_taken a j who (IsUp replaced) N there = each_answered a j Joined (comes_up a j who replaced ∷ []) N there (λ M. each-last PutsThere (comes_up a j who replaced) M (each_comes_up a j who replaced M))
+each_meets_taken a j who (IsUp replaced) N there = each_answered a j Joined (comes_up a j who replaced ∷ []) N there
+    (λ M. each-last PutsThere (comes_up a j who replaced) M (each_comes_up a j who replaced M))
 each_meets_taken a j who (Duplicate holder) N there = each_refused a j N there
 each_meets_taken a j who (WrongPeer v) N there = each_refused a j N there
 
@@ -200,7 +207,8 @@ each_answers_by name msg None N there = each-when PutsThere (λ M. not (is_for_a
 each_takes_body : (a : Made) (name : LinkName) (msg : Message) (body : Body) (N : Log) → is_there name N ≡ true → EachHas PutsThere N (takes_body a name msg body N)
 each_takes_body a name msg (Npdu npdu) N there = each-some PutsThere (sender name msg N) (delivers msg npdu) nothing N (λ v s. (tt, tt)) tt
 each_takes_body a name msg AddressResolution N there = each_answers_by name msg a.limits.uris N there
-each_takes_body a name msg (AddressResolutionAck uris) N there = each-some PutsThere (sender name msg N) (learns a msg uris) nothing N (λ v s. each_bare (learns a msg uris v) (bare-learns a msg uris v) N) tt
+each_takes_body a name msg (AddressResolutionAck uris) N there = each-some PutsThere (sender name msg N) (learns a msg uris) nothing N
+    (λ v s. each_bare (learns a msg uris v) (bare-learns a msg uris v) N) tt
 each_takes_body a name msg (Advertisement ad) N there = each-some PutsThere (sender name msg N) (λ v. tells (ToldAdvert v ad)) nothing N (λ v s. (tt, tt)) tt
 each_takes_body a name msg AdvertisementSolicitation N there = (on_there N name there, tt)
 each_takes_body a name msg (BvlcResult answer) N there = each_bare (takes_answer a name msg answer) (bare-takes_answer a name msg answer) N
@@ -228,7 +236,8 @@ each_ticks_link a name N =
     each-when PutsThere (is_there name) (in_order (ticks name ∷ obeys a name ∷ [])) N
     (λ there. each_told a name (ticks name) N (bare-ticks name) (told_there name N (λ n. InitTick (now N) (next_id N)) (λ n. AcceptTick (now N)) (was_taken name N) there))
 
-each_mapped : {A : Type 0} (rule : A → Rule) (xs : List A) (rules : List Rule) → ((x : A) (M : Log) → EachHas PutsThere M (rule x M)) → ((M : Log) → EachHas PutsThere M (in_order rules M)) → (N : Log) → EachHas PutsThere N (in_order (map rule xs ++ rules) N)
+each_mapped : {A : Type 0} (rule : A → Rule) (xs : List A) (rules : List Rule) → ((x : A) (M : Log) → EachHas PutsThere M (rule x M)) → ((M : Log) → EachHas PutsThere M (in_order rules M))
+    → (N : Log) → EachHas PutsThere N (in_order (map rule xs ++ rules) N)
 each_mapped rule [] rules p q N = q N
 each_mapped rule (x ∷ xs) rules p q N = each-cons PutsThere (rule x) (map rule xs ++ rules) N (p x N) (each_mapped rule xs rules p q (N ++ rule x N))
 
@@ -244,7 +253,8 @@ each_all rule (x ∷ xs) p N = each-cons PutsThere (rule x) (map rule xs) N (p x
 
 each_is_to_end : (a : Made) (N : Log) → EachHas PutsThere N (is_to_end a N)
 each_is_to_end a N =
-    each-cons PutsThere tells_finished (map (finishes_link a) names) N (each_bare tells_finished bare-tells_finished N) (each_all (finishes_link a) names (each_finishes_link a) (N ++ tells_finished N))
+    each-cons PutsThere tells_finished (map (finishes_link a) names) N (each_bare tells_finished bare-tells_finished N)
+    (each_all (finishes_link a) names (each_finishes_link a) (N ++ tells_finished N))
 
 -- ---- on the way of a message
 
@@ -269,7 +279,8 @@ each_sends v npdu N =
 
 each_asks_unless : (w : Way) (v : Vmac) (o : Option AskRefusal) (N : Log) → OnThere N w.link → EachHas PutsThere N (asks_unless w v o N)
 each_asks_unless w v None N there =
-    each-cons PutsThere (puts_own w AddressResolution) (resolution_sees (Ask (now N) (next_id N) v) ∷ []) N (there, tt) (each-last PutsThere (resolution_sees (Ask (now N) (next_id N) v)) (N ++ puts_own w AddressResolution N) (tt, tt))
+    each-cons PutsThere (puts_own w AddressResolution) (resolution_sees (Ask (now N) (next_id N) v) ∷ []) N (there, tt)
+    (each-last PutsThere (resolution_sees (Ask (now N) (next_id N) v)) (N ++ puts_own w AddressResolution N) (tt, tt))
 each_asks_unless w v (Some (Full held)) N there = (tt, tt)
 each_asks_unless w v (Some (Pending id)) N there = (tt, tt)
 each_asks_unless w v (Some NoMemory) N there = tt

@@ -1,4 +1,5 @@
 -- Where an NPDU passes over a direct link, its slot came up over that link, with the link's peer.
+-- It serves the clauses of `npdus_pass_where_up`.
 use Rattle.std.proofs.Common.{◌≡◌, ◌⊎◌, inl, inr, ℕ, ◌==◌, Bool, true, false, not, ◌||◌, ◌&&◌, List, [], ◌∷◌, ◌++◌, length, Option, Some, None, refl, ap, sym, ◌∙◌, subst, arith, length-append}
 use Rattle.std.specs.Prelude.{IsTrue, unwrap_or, if◌then◌else◌}
 use Rattle.std.specs.List.{list_any}
@@ -45,7 +46,8 @@ use Rattle.bsc_node.specs.declared.note.Note.TheVariants.{DirectUp}
 use Rattle.bsc_node.specs.declared.timed_event.TimedEvent.{TimedEvent}
 use Rattle.bsc_node.specs.declared.action.Action.TheVariants.{Put, Close}
 use Rattle.bsc_node.specs.Logs.{Made, Line, came, did, slot, initiating, accepting, Log, Rule, in_order, if_so, does, tells, now, own_vmac}
-use Rattle.bsc_node.specs.Links.{same_link, begins, is_over_by_event, is_there, was_taken, initiating_events, accepting_events, phase, phase_by, peer, verdict, by_machine, Outcome, meets, initiating_outcome, outcome}
+use Rattle.bsc_node.specs.Links.{same_link, begins, is_over_by_event, is_there, was_taken, initiating_events, accepting_events, phase, phase_by, peer, verdict, by_machine, Outcome}
+use Rattle.bsc_node.specs.Links.{meets, initiating_outcome, outcome}
 use Rattle.bsc_node.specs.Ways.{awaits_peer, establish, slots_see}
 use Rattle.bsc_node.specs.Ending.{carries_out_by, carries_out, ends, closes_link}
 use Rattle.bsc_node.specs.Meeting.{joins, refuses, wrong_peer, finishes_replaced, comes_up, meets_dialled, meets_taken, meets_slot, meets_direct}
@@ -71,7 +73,8 @@ use Rattle.bsc_node_identity.proofs.Reasons.{was_open, Unmet, Sides, Why}
 use Rattle.bsc_node_identity.proofs.Settled.{kept, fitting, lasting}
 use Rattle.bsc_node_identity.proofs.Waiting.{unbegun}
 use Rattle.bsc_lemmas.proofs.Booleans.{and_left, and_right}
-use Rattle.bsc_node_identity.proofs.Rising.{is_made_dialled, is_made_taken, is_made_by, is_made, makes_taken, makes, made_is, made_before, UpSince, up_now, up_more, RisenAt, risen_more, comes_over, risen_elsewhere}
+use Rattle.bsc_node_identity.proofs.Rising.{is_made_dialled, is_made_taken, is_made_by, is_made, makes_taken, makes, made_is, made_before, UpSince, up_now, up_more, RisenAt}
+use Rattle.bsc_node_identity.proofs.Rising.{risen_more, comes_over, risen_elsewhere}
 
 -- ---- an event by which a message comes over it
 
@@ -114,7 +117,8 @@ module _ (a : Made) (L : Log) (e : TimedEvent) (may : IsTrue (may_come L e)) (k 
   dialled_so who (Duplicate holder) N each = closed_so wrong_peer N each
   dialled_so who (WrongPeer v) N each = closed_so wrong_peer N each
 
-  refused_so : (who : Identity) (N : Log) → was_taken (Direct k) N ≡ true → outcome a N (Direct k) ≡ meets who → EachHas (Why a L e) N (in_order (refuses (Direct k) ∷ carries_out a (Direct k) ∷ ends a (Direct k) ∷ []) N)
+  refused_so : (who : Identity) (N : Log) → was_taken (Direct k) N ≡ true → outcome a N (Direct k) ≡ meets who
+      → EachHas (Why a L e) N (in_order (refuses (Direct k) ∷ carries_out a (Direct k) ∷ ends a (Direct k) ∷ []) N)
       → Settles (N ++ in_order (refuses (Direct k) ∷ carries_out a (Direct k) ∷ ends a (Direct k) ∷ []) N)
   refused_so who N taken met each =
       settles_then (refuses (Direct k)) (carries_out a (Direct k) ∷ ends a (Direct k) ∷ []) N each
@@ -132,7 +136,8 @@ module _ (a : Made) (L : Log) (e : TimedEvent) (may : IsTrue (may_come L e)) (k 
           ∙ ap (is_there (Direct k)) (sym (append_assoc refused_log (did (Put (Direct k) c.0) ∷ []) (did (Close (Direct k) c.1) ∷ [])))
           ∙ closed-gone (Direct k) (refused_log ++ did (Put (Direct k) c.0) ∷ []) c.1
 
-  taken_so : (who : Identity) (answer : Establish) (N : Log) → was_taken (Direct k) N ≡ true → outcome a N (Direct k) ≡ meets who → EachHas (Why a L e) N (meets_taken a k who answer N) → Settles (N ++ meets_taken a k who answer N)
+  taken_so : (who : Identity) (answer : Establish) (N : Log) → was_taken (Direct k) N ≡ true → outcome a N (Direct k) ≡ meets who → EachHas (Why a L e) N (meets_taken a k who answer N)
+      → Settles (N ++ meets_taken a k who answer N)
   taken_so who (IsUp replaced) N taken met each =
       settles_then (joins (Direct k)) (carries_out a (Direct k) ∷ comes_up a k who replaced ∷ []) N each
       (λ later. settles_then (carries_out a (Direct k)) (comes_up a k who replaced ∷ []) (N ++ accepting (Direct k) Joined ∷ []) later
@@ -149,7 +154,8 @@ module _ (a : Made) (L : Log) (e : TimedEvent) (may : IsTrue (may_come L e)) (k 
       by_taken true t x = taken_so who (establish a k who N) N t met x
       by_taken false t x = dialled_so who (establish a k who N) N x
 
-      by : (b : Bool) → EachHas (Why a L e) N (if_so b (meets_slot a k who) (closes_link a (Direct k) wrong_peer) N) → Settles (N ++ if_so b (meets_slot a k who) (closes_link a (Direct k) wrong_peer) N)
+      by : (b : Bool) → EachHas (Why a L e) N (if_so b (meets_slot a k who) (closes_link a (Direct k) wrong_peer) N)
+          → Settles (N ++ if_so b (meets_slot a k who) (closes_link a (Direct k) wrong_peer) N)
       by true x = by_taken (was_taken (Direct k) N) refl x
       by false x = closed_so wrong_peer N x
 
@@ -165,10 +171,12 @@ module _ (a : Made) (L : Log) (e : TimedEvent) (may : IsTrue (may_come L e)) (k 
   judged = verdict a M (Direct k) o
 
   -- who accepts, in the state in which that is awaited, is met
-  accepted_met : (at id : ℕ) (v : Verdict) → Initiating.is_accepted_at id (InitMessage at v) ≡ true → (who : Identity) × (initiating_outcome (InitMessage at v) (InitiatingSteps.message_step (Initiating.awaiting_accept id) v) ≡ meets who)
+  accepted_met : (at id : ℕ) (v : Verdict) → Initiating.is_accepted_at id (InitMessage at v) ≡ true → (who : Identity)
+      × (initiating_outcome (InitMessage at v) (InitiatingSteps.message_step (Initiating.awaiting_accept id) v) ≡ meets who)
   accepted_met at id (Pass m) h = by (m.id == id) (who_accepts m.body) h
     where
-      by : (b : Bool) (p : Option Identity) → (b && says_who p) ≡ true → (who : Identity) × (initiating_outcome (InitMessage at (Pass m)) (if b then InitiatingSteps.answer_step p (refusing_code m.body) else InitNothing) ≡ meets who)
+      by : (b : Bool) (p : Option Identity) → (b && says_who p) ≡ true → (who : Identity)
+          × (initiating_outcome (InitMessage at (Pass m)) (if b then InitiatingSteps.answer_step p (refusing_code m.body) else InitNothing) ≡ meets who)
       by true (Some who) g = (who, refl)
       by true None g = cc
       by false p g = cc
@@ -193,7 +201,8 @@ module _ (a : Made) (L : Log) (e : TimedEvent) (may : IsTrue (may_come L e)) (k 
       by true t = (accepting (Direct k) (AcceptMessage (now M) judged), heard_taken t)
 
   -- the message makes nothing, where nobody is met
-  dialled_unmade : Unmeeting → was_taken (Direct k) M ≡ false → (g : Initiating.Standing) → Initiating.standing (initiating_events M (Direct k)) ≡ g → is_made_dialled g ≡ false → is_made_dialled (InitiatingKept.moved g (InitMessage (now M) judged)) ≡ false
+  dialled_unmade : Unmeeting → was_taken (Direct k) M ≡ false → (g : Initiating.Standing) → Initiating.standing (initiating_events M (Direct k)) ≡ g → is_made_dialled g ≡ false
+      → is_made_dialled (InitiatingKept.moved g (InitMessage (now M) judged)) ≡ false
   dialled_unmade unmet t Initiating.awaiting_websocket stands n = refl
   dialled_unmade unmet t (Initiating.awaiting_accept id) stands n = by (Initiating.is_accepted_at id (InitMessage (now M) judged)) refl
     where
@@ -226,7 +235,8 @@ module _ (a : Made) (L : Log) (e : TimedEvent) (may : IsTrue (may_come L e)) (k 
           unmade false made = refl
           unmade true made =
               both_ways (is_made k M)
-              (made_before k M (accepting (Direct k) (AcceptMessage (now M) judged)) refl (ap (λ (d : Bool). makes_taken d (AcceptMessage (now M) judged)) (same_link-self (Direct k))) (sym (ap (is_made k) (heard_taken t)) ∙ made)) n
+              (made_before k M (accepting (Direct k) (AcceptMessage (now M) judged)) refl (ap (λ (d : Bool). makes_taken d (AcceptMessage (now M) judged)) (same_link-self (Direct k)))
+              (sym (ap (is_made k) (heard_taken t)) ∙ made)) n
 
   longer : (x : Line) (more : List Line) → (M ++ x ∷ []) ++ more ≡ M → ⊥
   longer x more h = (let l : length ((M ++ x ∷ []) ++ more) ≡ length M = ap length h in absurd (omega (arith, l, length-append (M ++ x ∷ []) more, length-append M (x ∷ []))))
@@ -350,7 +360,8 @@ at_last_or_before {A} (z ∷ xs) y (b ∷ before) x later h =
     let rest : xs ++ y ∷ [] ≡ before ++ x ∷ later = cc in
     by first (at_last_or_before xs y before x later rest)
   where
-    by : z ≡ b → ((xs ≡ before) × (y ≡ x)) ⊎ ((more : List A) × (xs ≡ before ++ x ∷ more) × (later ≡ more ++ y ∷ [])) → ((z ∷ xs ≡ b ∷ before) × (y ≡ x)) ⊎ ((more : List A) × (z ∷ xs ≡ (b ∷ before) ++ x ∷ more) × (later ≡ more ++ y ∷ []))
+    by : z ≡ b → ((xs ≡ before) × (y ≡ x)) ⊎ ((more : List A) × (xs ≡ before ++ x ∷ more) × (later ≡ more ++ y ∷ [])) → ((z ∷ xs ≡ b ∷ before) × (y ≡ x))
+        ⊎ ((more : List A) × (z ∷ xs ≡ (b ∷ before) ++ x ∷ more) × (later ≡ more ++ y ∷ []))
     by first (inl (same, last)) = inl (ap (λ (l : List A). z ∷ l) same ∙ ap (λ (w : A). w ∷ before) first, last)
     by first (inr (more, same, last)) = inr (more, ap (λ (l : List A). z ∷ l) same ∙ ap (λ (w : A). w ∷ (before ++ x ∷ more)) first, last)
 
@@ -370,7 +381,8 @@ begins_last k more m h = by (list_any (begins (Direct k)) more) (begins (Direct 
     by true q g = cc
 
 -- what came up before a line that isn't it is the peer before, and so behind it
-ups_before : (N : Log) (m : Line) → Sides N → Sides (N ++ m ∷ []) → UpsArePeers N → (k : ℕ) (who : Identity) (before : Log) (more : List Line) → N ≡ before ++ slot (Up k who) ∷ more → list_any (begins (Direct k)) (more ++ m ∷ []) ≡ false → peer (N ++ m ∷ []) (Direct k) ≡ Some who
+ups_before : (N : Log) (m : Line) → Sides N → Sides (N ++ m ∷ []) → UpsArePeers N → (k : ℕ) (who : Identity) (before : Log) (more : List Line) → N ≡ before ++ slot (Up k who) ∷ more
+    → list_any (begins (Direct k)) (more ++ m ∷ []) ≡ false → peer (N ++ m ∷ []) (Direct k) ≡ Some who
 ups_before N m s t peers k who before more same since =
     let two = begins_last k more m since in
     known_more N m (Direct k) who s t two.1 (peers k who (record { before = before; later = more; is = same; since = two.0 }))
@@ -387,7 +399,8 @@ ups_more a L e unmet first N m why u = record { sides = sides; peers = λ k who 
         let w : Why a L e N (slot (Up k who)) = subst (Why a L e N) up why in
         ap (λ (y : Line). peer (N ++ y ∷ []) (Direct k)) up ∙ peer-silent N (slot (Up k who)) (Direct k) refl refl refl ∙ w.2 unmet first
 
-    by : (k : ℕ) (who : Identity) (up : CameUpWith (N ++ m ∷ []) k who) → ((N ≡ up.before) × (m ≡ slot (Up k who))) ⊎ ((more : List Line) × (N ≡ up.before ++ slot (Up k who) ∷ more) × (up.later ≡ more ++ m ∷ [])) → peer (N ++ m ∷ []) (Direct k) ≡ Some who
+    by : (k : ℕ) (who : Identity) (up : CameUpWith (N ++ m ∷ []) k who) → ((N ≡ up.before) × (m ≡ slot (Up k who)))
+        ⊎ ((more : List Line) × (N ≡ up.before ++ slot (Up k who) ∷ more) × (up.later ≡ more ++ m ∷ [])) → peer (N ++ m ∷ []) (Direct k) ≡ Some who
     by k who up (inl (same, last)) = here k who m refl last
     by k who up (inr (more, same, last)) = ups_before N m u.sides sides u.peers k who up.before more same (ap (list_any (begins (Direct k))) (sym last) ∙ up.since)
 
@@ -397,7 +410,8 @@ ups_event L e u = record { sides = sides; peers = λ k who up. by k who up (at_l
     sides : Sides (with_event L e)
     sides = sides_event L e u.sides
 
-    by : (k : ℕ) (who : Identity) (up : CameUpWith (with_event L e) k who) → ((L ≡ up.before) × (came e ≡ slot (Up k who))) ⊎ ((more : List Line) × (L ≡ up.before ++ slot (Up k who) ∷ more) × (up.later ≡ more ++ came e ∷ [])) → peer (with_event L e) (Direct k) ≡ Some who
+    by : (k : ℕ) (who : Identity) (up : CameUpWith (with_event L e) k who) → ((L ≡ up.before) × (came e ≡ slot (Up k who)))
+        ⊎ ((more : List Line) × (L ≡ up.before ++ slot (Up k who) ∷ more) × (up.later ≡ more ++ came e ∷ [])) → peer (with_event L e) (Direct k) ≡ Some who
     by k who up (inl (same, last)) = cc
     by k who up (inr (more, same, last)) = ups_before L (came e) u.sides sides u.peers k who up.before more same (ap (list_any (begins (Direct k))) (sym last) ∙ up.since)
 
@@ -432,7 +446,8 @@ none_failing test [] check ys h = by (test check) h
     by true g = cc
 none_failing test (x ∷ xs) check ys h = by (test x) h (none_failing test xs check ys)
   where
-    by : (b : Bool) → ◌≡◌ {A = Option Check} (elim b [ true ↦ Some x | false ↦ first_failing test (xs ++ check ∷ ys) ]) None → (first_failing test (xs ++ check ∷ ys) ≡ None → test check ≡ false) → test check ≡ false
+    by : (b : Bool) → ◌≡◌ {A = Option Check} (elim b [ true ↦ Some x | false ↦ first_failing test (xs ++ check ∷ ys) ]) None
+        → (first_failing test (xs ++ check ∷ ys) ≡ None → test check ≡ false) → test check ≡ false
     by false g later = later g
     by true g later = cc
 
@@ -454,7 +469,8 @@ in_place_then own p AwaitingAccept f origin one h = (let no : true ≡ false = s
 in_place_then own p Connected f origin one h = refl
 in_place_then own p Disconnecting f origin one h = (let no : true ≡ false = sym (ap (λ (g : ℕ). not (is_in_place_in Disconnecting (NodeDirect own p Disconnecting) g origin)) one) ∙ h in cc)
 
-passes_connected : (own : Vmac) (p : Option Vmac) (ph : Phase) (max : ℕ) (m : List ℕ) (msg : Message) → outcome_of m (NodeDirect own p ph) max ≡ Pass msg → (function_in m == 0x01) ≡ true → ph ≡ Connected
+passes_connected : (own : Vmac) (p : Option Vmac) (ph : Phase) (max : ℕ) (m : List ℕ) (msg : Message) → outcome_of m (NodeDirect own p ph) max ≡ Pass msg → (function_in m == 0x01) ≡ true
+    → ph ≡ Connected
 unfolding outcome_of
 passes_connected own p ph max m msg passed npdu =
     let none = decided_none m (NodeDirect own p ph) (first_failing (fails m (NodeDirect own p ph) max) (checks_of (NodeDirect own p ph) m)) msg passed in

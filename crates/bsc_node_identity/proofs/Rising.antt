@@ -1,4 +1,5 @@
 -- Whether a link's machine has made the connection, and whether its slot came up since the link began.
+-- It serves the clauses of `npdus_pass_where_up`.
 use Rattle.std.proofs.Common.{◌≡◌, ℕ, Bool, true, false, cond, ◌||◌, List, [], ◌∷◌, ◌++◌, Option, Some, None, refl, ap, sym, ◌∙◌}
 use Rattle.std.specs.Prelude.{IsTrue}
 use Rattle.std.specs.List.{list_any}
@@ -97,7 +98,8 @@ made_taken false E A call n h = h
 made_taken true E A call n h = made_by_taken (Accepting.standing A) call n (sym (ap is_made_taken (accepting_standing-more A call)) ∙ h)
 
 -- what it is, by what the machines were told
-pub made_is : (k : ℕ) (N : Log) (m : Line) (E : List InitEvent) (A : List Event) → begins (Direct k) m ≡ false → initiating_events (N ++ m ∷ []) (Direct k) ≡ E → accepting_events (N ++ m ∷ []) (Direct k) ≡ A → is_made k (N ++ m ∷ []) ≡ is_made_by (was_taken (Direct k) N) E A
+pub made_is : (k : ℕ) (N : Log) (m : Line) (E : List InitEvent) (A : List Event) → begins (Direct k) m ≡ false → initiating_events (N ++ m ∷ []) (Direct k) ≡ E
+    → accepting_events (N ++ m ∷ []) (Direct k) ≡ A → is_made k (N ++ m ∷ []) ≡ is_made_by (was_taken (Direct k) N) E A
 made_is k N m E A b e a = ap (λ (t : Bool). is_made_by t (initiating_events (N ++ m ∷ []) (Direct k)) (accepting_events (N ++ m ∷ []) (Direct k))) (taken-other (Direct k) N m b)
     ∙ ap (λ (x : List InitEvent). is_made_by (was_taken (Direct k) N) x (accepting_events (N ++ m ∷ []) (Direct k))) e ∙ ap (λ (x : List Event). is_made_by (was_taken (Direct k) N) E x) a
 
@@ -118,7 +120,8 @@ made_before k N (initiating other call) b n h = by (same_link other (Direct k)) 
         made_dialled (was_taken (Direct k) N) E A call (sym (ap (λ (d : Bool). makes_dialled d call) is) ∙ n)
         (sym (made_is k N (initiating other call) (E ++ call ∷ []) A b more (accepting-same (Direct k) N (initiating other call) b refl)) ∙ h)
     by false is =
-        sym (made_is k N (initiating other call) E A b (initiating-same (Direct k) N (initiating other call) b (ap (λ (d : Bool). cond d (Some call) None) is)) (accepting-same (Direct k) N (initiating other call) b refl)) ∙ h
+        sym (made_is k N (initiating other call) E A b (initiating-same (Direct k) N (initiating other call) b (ap (λ (d : Bool). cond d (Some call) None) is))
+        (accepting-same (Direct k) N (initiating other call) b refl)) ∙ h
 made_before k N (accepting other call) b n h = by (same_link other (Direct k)) refl
   where
     E : List InitEvent
@@ -134,7 +137,8 @@ made_before k N (accepting other call) b n h = by (same_link other (Direct k)) r
         made_taken (was_taken (Direct k) N) E A call (sym (ap (λ (d : Bool). makes_taken d call) is) ∙ n)
         (sym (made_is k N (accepting other call) E (A ++ call ∷ []) b (initiating-same (Direct k) N (accepting other call) b refl) more) ∙ h)
     by false is =
-        sym (made_is k N (accepting other call) E A b (initiating-same (Direct k) N (accepting other call) b refl) (accepting-same (Direct k) N (accepting other call) b (ap (λ (d : Bool). cond d (Some call) None) is))) ∙ h
+        sym (made_is k N (accepting other call) E A b (initiating-same (Direct k) N (accepting other call) b refl)
+        (accepting-same (Direct k) N (accepting other call) b (ap (λ (d : Bool). cond d (Some call) None) is))) ∙ h
 made_before k N m b n h =
     sym (made_is k N m (initiating_events N (Direct k)) (accepting_events N (Direct k)) b (initiating-same (Direct k) N m b refl) (accepting-same (Direct k) N m b refl)) ∙ h
 

@@ -1,4 +1,5 @@
 -- What holds of the log of a node between two events, whatever came: it stays so by each event that may come.
+-- It serves clauses of functions of `laws`.
 use Rattle.std.proofs.Common.{◌≡◌, inl, inr, ℕ, Bool, true, false, not, ◌&&◌, ◌||◌, List, [], ◌∷◌, ◌++◌, Option, Some, None, refl, ap, sym, ◌∙◌, subst}
 use Rattle.std.specs.Prelude.{⊤, ◌==◌, IsTrue, fold, map}
 use Rattle.std.specs.List.{list_any}
@@ -66,7 +67,8 @@ pub record Settled (a : Made) (L : Log) : Type 0 where
 -- ---- an event and what follows from it
 
 -- What an event keeps, and each line that has its reason, the event and what follows from it keep.
-pub kept : (a : Made) (L : Log) (e : TimedEvent) → IsTrue (may_come L e) → (I : Log → Type 0) → ((N : Log) (m : Line) → Why a L e N m → I N → I (N ++ m ∷ [])) → I (with_event L e) → I (L ++ goes_on a e L)
+pub kept : (a : Made) (L : Log) (e : TimedEvent) → IsTrue (may_come L e) → (I : Log → Type 0) → ((N : Log) (m : Line) → Why a L e N m → I N → I (N ++ m ∷ [])) → I (with_event L e)
+    → I (L ++ goes_on a e L)
 kept a L e may I keep i =
     subst I (sym (ap (λ (lines : List Line). L ++ lines) (goes_on-is a L e) ∙ sym (append_assoc L (came e ∷ []) (follows a e.event (with_event L e)))))
     (keeps (Why a L e) I keep (with_event L e) (follows a e.event (with_event L e)) (each-why a L e may) i)
@@ -107,10 +109,12 @@ vmac-event a L e may s name there = by (renewal_in e.event) refl
 
 -- ---- accepts
 
-unaccepted_more : (a : Made) (L : Log) (e : TimedEvent) (N : Log) (m : Line) (name : LinkName) → Why a L e N m → begins name m ≡ false → has_opened name N ≡ false → has_opened name (N ++ m ∷ []) ≡ false → NoneAccepts (initiating_events N name)
+unaccepted_more : (a : Made) (L : Log) (e : TimedEvent) (N : Log) (m : Line) (name : LinkName) → Why a L e N m → begins name m ≡ false → has_opened name N ≡ false
+    → has_opened name (N ++ m ∷ []) ≡ false → NoneAccepts (initiating_events N name)
     → NoneAccepts (initiating_events (N ++ m ∷ []) name)
 unaccepted_more a L e N (initiating other call) name why b before after none id =
-    none-told N other name call id (none id) (λ same. silent call (subst (λ (n : LinkName). Why a L e N (initiating n call)) same why) (subst (λ (n : LinkName). has_opened name (N ++ initiating n call ∷ []) ≡ false) same after))
+    none-told N other name call id (none id) (λ same. silent call (subst (λ (n : LinkName). Why a L e N (initiating n call)) same why)
+    (subst (λ (n : LinkName). has_opened name (N ++ initiating n call ∷ []) ≡ false) same after))
   where
     silent : (c : InitEvent) → Why a L e N (initiating name c) → has_opened name (N ++ initiating name c ∷ []) ≡ false → accepts_by id c ≡ None
     silent (MachineOpened now i) w after = refl
@@ -169,7 +173,8 @@ begun-alone L e may s N k (beginning, inr (failed, is)) =
 
     by : (o : Option Identity) → established_peer k L ≡ o → o ≡ None
     by None h = refl
-    by (Some who) h = both_ways (was_open (Direct k) L) (s k who h) (neither (is_there (Direct k) L) (was_taken (Direct k) L) (has_opened (Direct k) L) (fitting L e may (DialFailed (Direct k)) failed))
+    by (Some who) h = both_ways (was_open (Direct k) L) (s k who h) (neither (is_there (Direct k) L) (was_taken (Direct k) L) (has_opened (Direct k) L)
+        (fitting L e may (DialFailed (Direct k)) failed))
 
 keep_open : (a : Made) (L : Log) (e : TimedEvent) → IsTrue (may_come L e) → SlotsAreOpen L → (N : Log) (m : Line) → Why a L e N m → SlotsAreOpen N → SlotsAreOpen (N ++ m ∷ [])
 keep_open a L e may s N m why i k who h = by (begins (Direct k) m) refl
@@ -270,7 +275,8 @@ lasts a I keep [] w i h = i
 lasts a I keep (e ∷ events) w i h = lasts a I keep events (watch a w e) (keep w.log e i (and_right w.fine (may_come w.log e) (was_fine a events (watch a w e) h))) h
 
 -- What the first log has, and each event that may come keeps, every log has to which only such events came.
-pub lasting : (a : Made) (I : Log → Type 0) → I [] → ((L : Log) (e : TimedEvent) → I L → IsTrue (may_come L e) → I (L ++ goes_on a e L)) → (events : List TimedEvent) → IsTrue (may_all_come a events) → I (log a events)
+pub lasting : (a : Made) (I : Log → Type 0) → I [] → ((L : Log) (e : TimedEvent) → I L → IsTrue (may_come L e) → I (L ++ goes_on a e L)) → (events : List TimedEvent)
+    → IsTrue (may_all_come a events) → I (log a events)
 lasting a I first keep events h = lasts a I keep events (record { log = []; fine = true }) first h
 
 pub settled-log : (a : Made) (events : List TimedEvent) → IsTrue (may_all_come a events) → Settled a (log a events)

@@ -1,4 +1,5 @@
 -- Which steps of a machine are tame: what they put is no Address-Resolution-ACK, no Connect-Request and no Connect-Accept.
+-- It serves clauses of functions of `laws`.
 use Rattle.std.proofs.Common.{◌≡◌, ℕ, Bool, true, false, not, cond, ◌&&◌, List, [], ◌∷◌, ◌++◌, Option, Some, None, refl, ap, ◌∙◌}
 use Rattle.std.specs.Prelude.{⊤, ◌==◌}
 use Rattle.bsc_octets.specs.declared.identity.Identity.{Identity}
@@ -35,7 +36,8 @@ use Rattle.bsc_initiate.specs.Steps.{answer_step, connected_step, passed_step, m
 use Rattle.bsc_node.specs.declared.link_name.LinkName.{LinkName}
 use Rattle.bsc_node.specs.declared.link_name.LinkName.TheVariants.{Direct}
 use Rattle.bsc_node.specs.Logs.{Made, Log, initiating, accepting, now, next_id}
-use Rattle.bsc_node.specs.Links.{was_taken, start, initiating_events, accepting_events, verdict, place, by_machine, hears, ticks, finishes, Outcome, puts, puts_and_closes, initiating_outcome, accepting_outcome, outcome}
+use Rattle.bsc_node.specs.Links.{was_taken, start, initiating_events, accepting_events, verdict, place, by_machine, hears, ticks, finishes, Outcome, puts, puts_and_closes}
+use Rattle.bsc_node.specs.Links.{initiating_outcome, accepting_outcome, outcome}
 use Rattle.bsc_node.specs.Meeting.{refuses}
 use Rattle.bsc_node.proofs.Told.{outcome-initiating, outcome-accepting}
 use Rattle.bsc_node_identity.specs.Naming.{is_connect}
@@ -79,7 +81,8 @@ tame_judged m place max = tame_decided m place (first_failing (fails m place max
 
 -- ---- the machine of a link that was dialled
 
-tame_if : (e : InitEvent) (b : Bool) (x y : InitStep) → puts_tamely (initiating_outcome e x) ≡ true → puts_tamely (initiating_outcome e y) ≡ true → puts_tamely (initiating_outcome e (cond b x y)) ≡ true
+tame_if : (e : InitEvent) (b : Bool) (x y : InitStep) → puts_tamely (initiating_outcome e x) ≡ true → puts_tamely (initiating_outcome e y) ≡ true
+    → puts_tamely (initiating_outcome e (cond b x y)) ≡ true
 tame_if e true x y h g = h
 tame_if e false x y h g = g
 
@@ -97,7 +100,8 @@ tame_connected now msg id body = refl
 tame_passed : (now : ℕ) (msg : Message) (g : Standing) → puts_tamely (initiating_outcome (InitMessage now (Pass msg)) (passed_step g msg)) ≡ true
 tame_passed now msg awaiting_websocket = refl
 tame_passed now msg (awaiting_accept id) =
-    tame_if (InitMessage now (Pass msg)) (msg.id == id) (answer_step (who_accepts msg.body) (refusing_code msg.body)) Nothing (tame_answer (InitMessage now (Pass msg)) (who_accepts msg.body) (refusing_code msg.body)) refl
+    tame_if (InitMessage now (Pass msg)) (msg.id == id) (answer_step (who_accepts msg.body) (refusing_code msg.body)) Nothing
+    (tame_answer (InitMessage now (Pass msg)) (who_accepts msg.body) (refusing_code msg.body)) refl
 tame_passed now msg connected = tame_connected now msg msg.id msg.body
 tame_passed now msg (disconnecting f) = tame_if (InitMessage now (Pass msg)) (is_farewell_answer f.id msg) _ _ refl refl
 
@@ -122,7 +126,8 @@ tame_finish_by now id (disconnecting f) = refl
 
 -- ---- the machine of a link that was taken
 
-tame_if_taken : (h : Accepting.Standing) (e : Event) (b : Bool) (x y : Step) → puts_tamely (accepting_outcome h e x) ≡ true → puts_tamely (accepting_outcome h e y) ≡ true → puts_tamely (accepting_outcome h e (cond b x y)) ≡ true
+tame_if_taken : (h : Accepting.Standing) (e : Event) (b : Bool) (x y : Step) → puts_tamely (accepting_outcome h e x) ≡ true → puts_tamely (accepting_outcome h e y) ≡ true
+    → puts_tamely (accepting_outcome h e (cond b x y)) ≡ true
 tame_if_taken h e true x y p q = p
 tame_if_taken h e false x y p q = q
 
@@ -130,7 +135,8 @@ tame_asked : (e : Event) (who : Option Identity) → puts_tamely (accepting_outc
 tame_asked e (Some who) = refl
 tame_asked e None = refl
 
-tame_taken_connected : (now : ℕ) (msg : Message) (id : ℕ) (body : Body) → puts_tamely (accepting_outcome Accepting.connected (AcceptMessage now (Pass msg)) (AcceptingSteps.connected_step id body)) ≡ true
+tame_taken_connected : (now : ℕ) (msg : Message) (id : ℕ) (body : Body)
+    → puts_tamely (accepting_outcome Accepting.connected (AcceptMessage now (Pass msg)) (AcceptingSteps.connected_step id body)) ≡ true
 tame_taken_connected now msg id HeartbeatRequest = refl
 tame_taken_connected now msg id DisconnectRequest = refl
 tame_taken_connected now msg id body = refl

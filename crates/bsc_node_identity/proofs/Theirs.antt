@@ -1,4 +1,5 @@
 -- Who is met over a link is the link's peer from then on, where the machine that waited for its peer knew none.
+-- It serves clauses of functions of `laws`.
 use Rattle.std.proofs.Common.{◌≡◌, ℕ, Bool, true, false, cond, List, [], ◌∷◌, ◌++◌, Option, Some, None, refl, ap, sym, ◌∙◌}
 use Rattle.std.specs.Prelude.{if◌then◌else◌}
 use Rattle.std.specs.Option.{option_or, option_and_then}
@@ -36,7 +37,8 @@ since_same : (i id : ℕ) (later : List InitEvent) → since_request i later ≡
 since_same i id [] h = same_request i id h
 since_same i id (e ∷ later) h = by (is_accepted_at i e) h (since_same i id later)
   where
-    by : (b : Bool) → cond b (until_farewell (oldest farewell_at later)) (since_request i later) ≡ awaiting_accept id → (since_request i later ≡ awaiting_accept id → Some i ≡ Some id) → Some i ≡ Some id
+    by : (b : Bool) → cond b (until_farewell (oldest farewell_at later)) (since_request i later) ≡ awaiting_accept id → (since_request i later ≡ awaiting_accept id → Some i ≡ Some id)
+        → Some i ≡ Some id
     by true g next = farewell_other (oldest farewell_at later) id g
     by false g next = next g
 
@@ -49,10 +51,12 @@ requested (e ∷ later) id h = by (request_at e) h (requested later id)
     by (Some i) g next = since_same i id later g
     by None g next = next g
 
-accepted_here : (E : List InitEvent) (at : ℕ) (v : Verdict) (m : Message) (who : Identity) → v ≡ Pass m → standing E ≡ awaiting_accept m.id → first_of (accepts_by m.id) E ≡ None → who_accepts m.body ≡ Some who
+accepted_here : (E : List InitEvent) (at : ℕ) (v : Verdict) (m : Message) (who : Identity) → v ≡ Pass m → standing E ≡ awaiting_accept m.id → first_of (accepts_by m.id) E ≡ None
+    → who_accepts m.body ≡ Some who
     → who_accepted (E ++ InitMessage at v ∷ []) ≡ Some who
 accepted_here E at v m who passed awaits none accepts =
-    ap (λ (r : Option ℕ). option_and_then (λ id. first_of (accepts_by id) (E ++ InitMessage at v ∷ [])) r) (first_of-more request_at E (InitMessage at v) ∙ or_last (request E) ∙ requested E m.id awaits)
+    ap (λ (r : Option ℕ). option_and_then (λ id. first_of (accepts_by id) (E ++ InitMessage at v ∷ [])) r)
+    (first_of-more request_at E (InitMessage at v) ∙ or_last (request E) ∙ requested E m.id awaits)
     ∙ first_of-more (accepts_by m.id) E (InitMessage at v)
     ∙ ap (λ (p : Option Identity). option_or p (accepts_by m.id (InitMessage at v))) none
     ∙ ap (λ (w : Verdict). accepts_by m.id (InitMessage at w)) passed
@@ -62,7 +66,8 @@ accepted_here E at v m who passed awaits none accepts =
 -- ---- over a link
 
 -- Who is met is the link's peer then.
-pub met-theirs : (a : Made) (L : Log) (e : TimedEvent) (k : ℕ) (o : List ℕ) (who : Identity) → is_there (Direct k) (with_event L e) ≡ true → outcome a (with_heard a L e (Direct k) o) (Direct k) ≡ meets who → Unmet L → Sides L
+pub met-theirs : (a : Made) (L : Log) (e : TimedEvent) (k : ℕ) (o : List ℕ) (who : Identity) → is_there (Direct k) (with_event L e) ≡ true
+    → outcome a (with_heard a L e (Direct k) o) (Direct k) ≡ meets who → Unmet L → Sides L
     → peer (with_heard a L e (Direct k) o) (Direct k) ≡ Some who
 met-theirs a L e k o who there met unmet sides = by (was_taken name M) refl
   where
@@ -89,7 +94,8 @@ met-theirs a L e k o who there met unmet sides = by (was_taken name M) refl
 
     by_accept : was_taken name M ≡ false → Accepts v (standing (initiating_events M name)) who → peer (M ++ initiating name (InitMessage (now M) v) ∷ []) name ≡ Some who
     by_accept t (m, passed, awaits, accepts) =
-        peer_is (M ++ initiating name (InitMessage (now M) v) ∷ []) name (initiating_events M name ++ InitMessage (now M) v ∷ []) (accepting_events M name) (initiating_events-more M name (InitMessage (now M) v))
+        peer_is (M ++ initiating name (InitMessage (now M) v) ∷ []) name (initiating_events M name ++ InitMessage (now M) v ∷ []) (accepting_events M name)
+        (initiating_events-more M name (InitMessage (now M) v))
         (accepting-same name M (initiating name (InitMessage (now M) v)) refl refl)
         ∙ ap (λ (p : Option Identity). option_or p (who_asked (accepting_events M name)))
         (accepted_here (initiating_events M name) (now M) v m who passed awaits
@@ -99,7 +105,8 @@ met-theirs a L e k o who there met unmet sides = by (was_taken name M) refl
     by_ask t (m, passed, awaits, asks) =
         peer_is (M ++ accepting name (AcceptMessage (now M) v) ∷ []) name (initiating_events M name) (accepting_events M name ++ AcceptMessage (now M) v ∷ [])
         (initiating-same name M (accepting name (AcceptMessage (now M) v)) refl refl) (accepting_events-more M name (AcceptMessage (now M) v))
-        ∙ ap (λ (p : Option Identity). option_or p (who_asked (accepting_events M name ++ AcceptMessage (now M) v ∷ []))) (ap who_accepted E ∙ none_accepted (initiating_events L name) (sides.taken name (taken true t)))
+        ∙ ap (λ (p : Option Identity). option_or p (who_asked (accepting_events M name ++ AcceptMessage (now M) v ∷ [])))
+        (ap who_accepted E ∙ none_accepted (initiating_events L name) (sides.taken name (taken true t)))
         ∙ first_of-more asks_by (accepting_events M name) (AcceptMessage (now M) v)
         ∙ ap (λ (p : Option Identity). option_or p (asks_by (AcceptMessage (now M) v)))
         (ap who_asked A ∙ unmet.asks k (there-before name L (came e) refl there) (taken true t) (sym (ap Accepting.standing A) ∙ awaits))

@@ -1,4 +1,5 @@
 -- Which events may come between two others: no word is awaited then, and the time of the log has passed.
+-- It serves bsc_network_laws.
 use Rattle.std.proofs.Common.{◌≡◌, ◌≤◌, ◌<◌, true, false, not, ◌++◌, ℕ, sym, ◌∙◌, subst, arith}
 use Rattle.std.specs.Prelude.{◌^◌, IsTrue, nat_le, nat_lt, if◌then◌else◌}
 use Rattle.std.specs.List.{list_any}
@@ -21,7 +22,8 @@ pub record Timely (T : ℕ) (L : Log) : Type 0 where
 -- An event that fits and brings no word may come then.
 pub may_then : (T : ℕ) (L : Log) (e : NodeEvent) → T < 2 ^ 62 → Timely T L → brings_word e ≡ false → fits L e ≡ true → IsTrue (may_come L (record { now = T; event = e }))
 may_then T L e below timely brings fit =
-    all_four (nat_le (now L) T) (nat_lt T (2 ^ 62)) (if brings_word e then awaits_word L else not (awaits_word L)) (fits L e) (le-leb (now L) T timely.time) (lt-ltb T (2 ^ 62) below) (no_word (brings_word e) (awaits_word L) brings timely.word) fit
+    all_four (nat_le (now L) T) (nat_lt T (2 ^ 62)) (if brings_word e then awaits_word L else not (awaits_word L)) (fits L e) (le-leb (now L) T timely.time) (lt-ltb T (2 ^ 62) below)
+    (no_word (brings_word e) (awaits_word L) brings timely.word) fit
 
 -- An event that draws no word leaves the log so, at its time.
 pub timely-undrawn : (a : Made) (L : Log) (e : TimedEvent) → IsTrue (may_come L e) → list_any draws (actions_at a L e) ≡ false → Timely e.now (L ++ goes_on a e L)

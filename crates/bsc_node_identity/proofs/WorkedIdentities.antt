@@ -1,4 +1,5 @@
 -- Logs written out in which the premises of the laws hold, and what the laws speak of comes about, by computation.
+-- No clause needs it: worked examples.
 use Rattle.std.proofs.Common.{◌≡◌, ℕ, true, List, [], ◌∷◌, ◌++◌, Some, None, replicate, refl}
 use Rattle.std.specs.Prelude.{codes}
 use Rattle.std.specs.List.{list_any}
@@ -55,7 +56,14 @@ own_uris = codes "ws://b/"
 abbrev the_node : Made
 the_node = record {
   own = itself;
-  limits = record { times = record { connect_wait = 10000; disconnect_wait = 10000; heartbeat = 300000 }; primary = codes "ws://p/"; failover = None; uris = Some own_uris; least_wait = 2000; greatest_wait = 30000 };
+  limits = record {
+    times = record { connect_wait = 10000; disconnect_wait = 10000; heartbeat = 300000 };
+    primary = codes "ws://p/";
+    failover = None;
+    uris = Some own_uris;
+    least_wait = 2000;
+    greatest_wait = 30000;
+  };
 }
 
 abbrev at : ℕ → NodeEvent → TimedEvent
@@ -170,11 +178,13 @@ way_to_all : way broadcast (log the_node dialled) ≡ Some (record { link = Hub 
 unfolding node_on_literals
 way_to_all = refl
 
-for_one : outcome_of (out (message_octets 5 (Some (address 0x0B)) (Npdu (1 ∷ 2 ∷ []))) (address 0x0A)) (NodeHub (address 0x0B) Connected) 1600 ≡ Pass (passed_on 5 (address 0x0A) (address 0x0B) (Npdu (1 ∷ 2 ∷ [])))
+for_one : outcome_of (out (message_octets 5 (Some (address 0x0B)) (Npdu (1 ∷ 2 ∷ []))) (address 0x0A)) (NodeHub (address 0x0B) Connected) 1600
+    ≡ Pass (passed_on 5 (address 0x0A) (address 0x0B) (Npdu (1 ∷ 2 ∷ [])))
 unfolding node_on_literals out
 for_one = refl
 
-for_all : outcome_of (out (message_octets 5 (Some broadcast) (Npdu (1 ∷ 2 ∷ []))) (address 0x0A)) (NodeHub (address 0x0B) Connected) 1600 ≡ Pass (passed_on 5 (address 0x0A) broadcast (Npdu (1 ∷ 2 ∷ [])))
+for_all : outcome_of (out (message_octets 5 (Some broadcast) (Npdu (1 ∷ 2 ∷ []))) (address 0x0A)) (NodeHub (address 0x0B) Connected) 1600
+    ≡ Pass (passed_on 5 (address 0x0A) broadcast (Npdu (1 ∷ 2 ∷ [])))
 unfolding node_on_literals out
 for_all = refl
 
@@ -184,7 +194,8 @@ plainly = refl
 
 -- ---- and other messages
 
-uris_on_their_way : outcome_of (out (message_octets 5 (Some (address 0x0B)) (AddressResolutionAck own_uris)) (address 0x0A)) (NodeHub (address 0x0B) Connected) 1600 ≡ Pass (passed_on 5 (address 0x0A) (address 0x0B) (AddressResolutionAck own_uris))
+uris_on_their_way : outcome_of (out (message_octets 5 (Some (address 0x0B)) (AddressResolutionAck own_uris)) (address 0x0A)) (NodeHub (address 0x0B) Connected) 1600
+    ≡ Pass (passed_on 5 (address 0x0A) (address 0x0B) (AddressResolutionAck own_uris))
 unfolding node_on_literals out
 uris_on_their_way = refl
 

@@ -1,5 +1,6 @@
 -- How what a run has in its hands agrees with the log of its node: each link is there where the log says so, and what is
 -- new of a link waits to be told.
+-- It serves bsc_application, bsc_node_command and bsc_node_links.
 use Rattle.std.proofs.Common.{◌≡◌, Bool, true, false, ◌||◌, List, [], ◌∷◌, ◌++◌, Option, Some, None}
 use Rattle.std.specs.Prelude.{◌⊎◌, filter, map}
 use Rattle.std.specs.List.{list_all}

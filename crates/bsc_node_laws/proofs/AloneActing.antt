@@ -1,4 +1,5 @@
 -- A node to which no link comes, between its steps: no link is in hand, and all that is new is that dials failed.
+-- It serves bsc_node_command.
 use Rattle.std.proofs.Common.{◌≡◌, ℕ, Bool, true, false, not, cond, ◌&&◌, ◌||◌, List, [], ◌∷◌, ◌++◌, fold, Option, Some, None, is_some, refl, ap, sym, ◌∙◌, subst, append_assoc}
 use Rattle.std.specs.Prelude.{IsTrue, map, filter_map}
 use Rattle.std.specs.List.{list_all}
@@ -175,7 +176,8 @@ module _ {L : Type 0} (talk : L → Option (List Said)) (all : List Dialled) whe
   does_stands (Tell note) n w v s (g, same) later h = writes_stand n w v s v.held _ same h
   does_stands Draw n w v s same later h = stays n n w v s refl same h
 
-  carries_stands : (actions : List Action) (n : Log) (w v : World L) (s : Alone) → Carries talk actions w v → LeadsTo all v.dialled.calls → Stands all n w s → Stands all n v (fold after_action s actions)
+  carries_stands : (actions : List Action) (n : Log) (w v : World L) (s : Alone) → Carries talk actions w v → LeadsTo all v.dialled.calls → Stands all n w s
+      → Stands all n v (fold after_action s actions)
   carries_stands [] n w v s same later h = stays n n w v s refl same h
   carries_stands (action ∷ actions) n w v s (x, d, c) later h =
       carries_stands actions n x v (after_action s action) c later (does_stands action n w x s d (carries_back talk all actions x v c later) h)

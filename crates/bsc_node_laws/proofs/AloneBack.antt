@@ -1,4 +1,5 @@
 -- What dialer and acceptor tell at the end of a run they told all the time: calls are only added, and links only leave.
+-- It serves bsc_node_command.
 use Rattle.std.proofs.Common.{◌≡◌, ◌≤◌, ℕ, Bool, true, false, inl, inr, List, [], ◌∷◌, ◌++◌, length, Option, Some, None, Result, Ok, Err, refl, ap, sym, ◌∙◌, subst, append_assoc, arith, unwrap_or}
 use Rattle.std.proofs.lemmas.Option.{same_Some}
 use Rattle.bsc_edge.specs.declared.dialled.Dialled.{Dialled}

@@ -1,5 +1,7 @@
 -- A turn of a node to which no link comes.
-use Rattle.std.proofs.Common.{◌≡◌, ◌≤◌, ℕ, zero, suc, Bool, true, false, ◌&&◌, inl, inr, List, [], ◌∷◌, ◌++◌, length, fold, Option, Some, None, Ok, is_some, refl, ap, sym, ◌∙◌, subst, arith, one-add, le-leb}
+-- It serves bsc_node_command.
+use Rattle.std.proofs.Common.{◌≡◌, ◌≤◌, ℕ, zero, suc, Bool, true, false, ◌&&◌, inl, inr, List, [], ◌∷◌, ◌++◌, length, fold, Option, Some, None, Ok, is_some, refl, ap, sym, ◌∙◌}
+use Rattle.std.proofs.Common.{subst, arith, one-add, le-leb}
 use borrow.Author.Tests.{lt-leb}
 use Rattle.std.specs.Prelude.{map, not}
 use Rattle.std.specs.List.{list_all, list_any}
@@ -171,7 +173,8 @@ module _ {L : Type 0} (a : Made) (talk : L → Option (List Said)) (all : List D
       let same : length new ≡ length ls = ap length (same_Some new ls some) in
       absurd (omega (arith, more, same, few))
 
-  admits_stands : (links : List L) (b : Bool) (n m : Log) (w v : World L) (door door' : Admitting L) (s : Alone) → Admits (GoesAsDefined a) talk now b (moment n w door) (moment m v door') → door.left ≡ Some links
+  admits_stands : (links : List L) (b : Bool) (n m : Log) (w v : World L) (door door' : Admitting L) (s : Alone) → Admits (GoesAsDefined a) talk now b (moment n w door) (moment m v door')
+      → door.left ≡ Some links
       → StillLeft links door'.left → Stands all n w s → Stands all m v s × (door'.left ≡ Some links)
   admits_stands links false n m w v door door' s (e, same, k) is still h = (stays talk all n m w v s e same h, ap (λ (d : Admitting L). d.left) k ∙ is)
   admits_stands links true n m w v door door' s (waits, inl (e, same, k)) is still h = (stays talk all n m w v s e same h, none_arrived links door.left door'.left k.0 is still)
@@ -197,7 +200,8 @@ module _ {L : Type 0} (a : Made) (talk : L → Option (List Said)) (all : List D
     pub asked : all_asked rest ≡ true
 
   -- The node starts, in the first turn, and time has passed.
-  ticks_stand : (start : Option ℕ) (n n1 m : Log) (w w1 v : World L) (s : Alone) → Starts (GoesAsDefined a) talk now start n w n1 w1 → Gives (GoesAsDefined a) talk now Tick n1 w1 m v → LeadsTo all v.dialled.calls
+  ticks_stand : (start : Option ℕ) (n n1 m : Log) (w w1 v : World L) (s : Alone) → Starts (GoesAsDefined a) talk now start n w n1 w1 → Gives (GoesAsDefined a) talk now Tick n1 w1 m v
+      → LeadsTo all v.dialled.calls
       → Stands all n w s → Stands all m v (fold (told a now) s (first_events start))
   ticks_stand None n n1 m w w1 v s g t later h =
       gives_stands talk all a now Tick n1 m w1 v (told a now s Start) refl t later
@@ -217,7 +221,8 @@ module _ {L : Type 0} (a : Made) (talk : L → Option (List Said)) (all : List D
       let failed : Alone = told_failed a now (length ticked.failed) ticked in
       let both_asked : (all_asked t.lines && all_asked rest) ≡ true =
       sym (list_all-append (λ (d : Due). is_asked d.event) t.lines rest) ∙ ap all_asked (sym t.parts) ∙ asked in
-      let at2 : Stands all t.node_ticked t.world_ticked ticked = ticks_stand start n t.node_started t.node_ticked t.world_begun t.world_started t.world_ticked begun_s t.starts t.ticks before2 (begins_stands n w t.world_begun s t.begins h) in
+      let at2 : Stands all t.node_ticked t.world_ticked ticked =
+      ticks_stand start n t.node_started t.node_ticked t.world_begun t.world_started t.world_ticked begun_s t.starts t.ticks before2 (begins_stands n w t.world_begun s t.begins h) in
       let at3 : Stands all t.node_told t.world_told failed = news_stands t.news (length ticked.failed) t.node_ticked t.node_told t.world_ticked t.world_told ticked (omega arith) t.told before3 at2 in
       let at4 : Stands all t.node_given t.world_given (fold (told a now) failed (map (λ (d : Due). d.event) t.lines)) =
       lines_stand t.lines t.node_told t.node_given t.world_told t.world_given failed (and_left (all_asked t.lines) (all_asked rest) both_asked) t.given before4 at3 in

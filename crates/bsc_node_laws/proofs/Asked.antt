@@ -1,4 +1,5 @@
 -- A peer that asked and is refused for its VMAC gets a NAK, and its link is closed.
+-- It serves the clauses of `links_begin_anew`.
 use Rattle.std.proofs.Common.{◌≡◌, ℕ, true, List, ◌++◌, None}
 use Rattle.bsc_octets.specs.declared.identity.Identity.{Identity}
 use Rattle.bsc_accept.specs.declared.closing.Closing.{Closing}

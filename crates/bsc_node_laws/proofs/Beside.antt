@@ -1,4 +1,5 @@
 -- A core beside the log that it stands for, where both take each step.
+-- It serves bsc_application, bsc_node_command and bsc_node_links.
 use Rattle.std.proofs.Common.{◌≡◌, ℕ, List, ap}
 use Rattle.bsc_node.specs.declared.node_event.NodeEvent.{NodeEvent}
 use Rattle.bsc_node.specs.declared.action.Action.{Action}

@@ -1,4 +1,5 @@
 -- What each event brings about, and that it leaves the log of a node that has started as it may be between two events.
+-- It serves the clauses of `links_begin_anew`.
 use Rattle.std.proofs.Common.{◌≡◌, Bool, true, false, ◌||◌, inl, inr, [], ◌∷◌, ◌++◌, None, refl, ap, sym, ◌∙◌, subst}
 use Rattle.std.specs.Prelude.{IsTrue}
 use Rattle.std.specs.List.{list_any}

@@ -1,5 +1,6 @@
 -- What comes about at an event of a run: the event first, and then lines that are no event; and that what is carried out
 -- keeps what a run has in hand in agreement with the log.
+-- It serves bsc_application, bsc_node_command and bsc_node_links.
 use Rattle.std.proofs.Common.{◌≡◌, Bool, true, false, ◌||◌, inl, inr, List, [], ◌∷◌, ◌++◌, Option, Some, None, refl, ap, sym, ◌∙◌, subst}
 use Rattle.std.specs.Prelude.{filter_map, unwrap_or}
 use Rattle.std.specs.List.{list_all, list_any}

@@ -1,5 +1,6 @@
 -- A whole run of a core that takes the definition's steps is a run of the definition, and it ends with the node's end only
 -- once the time of a `finish` of its script has passed.
+-- It serves bsc_application, bsc_node_command and bsc_node_links.
 use Rattle.std.proofs.Common.{◌≡◌, ◌≤◌, ℕ, ◌+◌, ◌-◌, Bool, true, List, [], ◌∷◌, ◌++◌, Option, Some, None, ap, sym, ◌∙◌, subst, arith}
 use Rattle.std.specs.List.{Contains, list_all}
 use Rattle.std.proofs.lemmas.List.Elements.{Contains-append_right}
@@ -73,16 +74,19 @@ module _ {N L : Type 0} (goes : N → ℕ → NodeEvent → List Action → N �
       → list_all asks script ≡ true → ((d : Due) → Contains script d → Contains whole d)
       → (n m : N) (w v : World L) (door door' : Admitting L) (M : Log) → Holds a Stands from (FinishBy whole first from) n w M → w.due ≡ []
       → Turns goes talk listens times (Some first) script (moment n w door) (moment m v door')
-      → (K : Log) × Turns (Both goes a) talk listens times (Some first) script (moment (beside n M) w door) (moment (beside m K) v door') × (v.finished ≡ true → FinishBy whole first (last_from from times))
+      → (K : Log) × Turns (Both goes a) talk listens times (Some first) script (moment (beside n M) w door) (moment (beside m K) v door')
+      × (v.finished ≡ true → FinishBy whole first (last_from from times))
   later_turns whole first [] from script early fall asked within n m w v door door' M h none (is, same, stays) =
       (M, (beside_same n m M is, same, stays), λ finished. h.0.by (h.0.agrees.finished (sym same.finished ∙ finished)))
   later_turns whole first (t ∷ times) from script early fall asked within n m w v door door' M h none (rest, p, x, mid, going, g, k) =
       let early_too : first ≤ t = omega (arith, fall.0) in
-      let q : (K : Log) × Turn (Both goes a) talk t (Some first) script rest listens (moment (beside n M) w door) (moment (beside p K) x mid) × Holds a Stands t (FinishBy whole first t) p x K × (x.due ≡ []) =
+      let q : (K : Log) × Turn (Both goes a) talk t (Some first) script rest listens (moment (beside n M) w door) (moment (beside p K) x mid)
+      × Holds a Stands t (FinishBy whole first t) p x K × (x.due ≡ []) =
       turn goes talk a Stands steps t fall.1 (FinishBy whole first t) (Some first) script rest listens n p w x door mid M
       (λ o y z same s. goes_on_later goes talk a Stands steps t fall.1 (FinishBy whole first t) first n o w y z M (at_later whole first from t n w M fall.0 h) none same s)
       asked (λ d c is due. (d, within d c, is, by_due d.at first t early_too due)) g in
-      let r : (K : Log) × Turns (Both goes a) talk listens times (Some first) rest (moment (beside p q.0) x mid) (moment (beside m K) v door') × (v.finished ≡ true → FinishBy whole first (last_from t times)) =
+      let r : (K : Log) × Turns (Both goes a) talk listens times (Some first) rest (moment (beside p q.0) x mid) (moment (beside m K) v door')
+      × (v.finished ≡ true → FinishBy whole first (last_from t times)) =
       later_turns whole first times t rest early_too fall.2 (asked_rest script g.lines rest g.parts asked) (λ d c. within d (within_rest script g.lines rest g.parts d c))
       p m x v mid door' q.0 q.2 q.3 k in
       (r.0, (rest, beside p q.0, x, mid, going, q.1, r.1), r.2)
@@ -111,7 +115,8 @@ module _ {N L : Type 0} (goes : N → ℕ → NodeEvent → List Action → N �
   pub lifted : (end : RunEnd) (turns : ℕ) (script : List Due) → list_all asks script ≡ true
       → (n m : N) (dialled dialled' : Dialling L) (held held' : Option (List ℕ)) (door door' : Admitting L) (told told' : Option (List ℕ)) → Stands n []
       → Run goes talk listens end turns script (run_moment n dialled held door told) (run_moment m dialled' held' door' told')
-      → (M : Log) × Run (Both goes a) talk listens end turns script (run_moment (beside n []) dialled held door told) (run_moment (beside m M) dialled' held' door' told') × (end ≡ Finished → FinishCame script told told')
+      → (M : Log) × Run (Both goes a) talk listens end turns script (run_moment (beside n []) dialled held door told) (run_moment (beside m M) dialled' held' door' told')
+      × (end ≡ Finished → FinishCame script told told')
   lifted end turns script asked n m dialled dialled' held held' door door' told told' s r = (
     q.0,
     record {
@@ -129,5 +134,6 @@ module _ {N L : Type 0} (goes : N → ℕ → NodeEvent → List Action → N �
     λ is. (r.times, r.readings, q.2 (subst (λ e. EndsSo e turns r.times r.last.finished) is r.ends)),
   )
     where
-      q : (K : Log) × Turns (Both goes a) talk listens r.times None script (moment (beside n []) r.first door) (moment (beside m K) r.last door') × (r.last.finished ≡ true → FinishIsOver script r.times)
+      q : (K : Log) × Turns (Both goes a) talk listens r.times None script (moment (beside n []) r.first door) (moment (beside m K) r.last door')
+          × (r.last.finished ≡ true → FinishIsOver script r.times)
       q = all_turns r.times script r.rise asked dialled held n m r.first r.last door door' s r.empty r.went

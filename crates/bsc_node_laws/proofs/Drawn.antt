@@ -1,4 +1,5 @@
 -- Which events leave a log that awaits a word: those at which a word is drawn, as the last line, where no link is there.
+-- It serves the clauses of `links_begin_anew`.
 use Rattle.std.proofs.Common.{◌≡◌, ℕ, Bool, true, false, not, ◌||◌, List, [], ◌∷◌, ◌++◌, Option, refl, ap, sym, ◌∙◌}
 use Rattle.std.specs.Prelude.{IsTrue, filter_map}
 use Rattle.std.specs.List.{list_all, list_any}
@@ -113,7 +114,8 @@ abbrev told : LinkName → Option Vmac → ℕ → Log → Log
 told name origin code N = (N ++ did (Close name normal) ∷ []) ++ tells_refusal name origin code (N ++ did (Close name normal) ∷ [])
 
 refused : (a : Made) (name : LinkName) (origin : Option Vmac) (code : ℕ) (N : Log) (b : Bool) → may_draw name code (told name origin code N) ≡ b
-    → is_refused_by a name origin code N ≡ did (Close name normal) ∷ tells_refusal name origin code (N ++ did (Close name normal) ∷ []) ++ if_so b (does Draw) (ends a name) (told name origin code N) ++ []
+    → is_refused_by a name origin code N ≡ did (Close name normal) ∷ tells_refusal name origin code (N ++ did (Close name normal) ∷ [])
+    ++ if_so b (does Draw) (ends a name) (told name origin code N) ++ []
 refused a name origin code N b h =
     in_order-brought (does (Close name normal) ∷ tells_refusal name origin code ∷ either (may_draw name code) (does Draw) (ends a name) ∷ []) N
     ∙ ap (λ (d : Bool). did (Close name normal) ∷ tells_refusal name origin code (N ++ did (Close name normal) ∷ []) ++ if_so d (does Draw) (ends a name) (told name origin code N) ++ []) h
@@ -128,7 +130,8 @@ by_draw : (a : Made) (L : Log) (e : TimedEvent) (name : LinkName) (N : Log) (ori
     → (b : Bool) → may_draw name code (told name origin code N) ≡ b → Leaves a L e
 by_draw a L e name N origin code known true h =
     leaves_draw a L e (told name origin code N)
-    (known.log_is ∙ ap (λ lines. N ++ lines) (refused a name origin code N true h) ∙ seam N (did (Close name normal)) (tells_refusal name origin code (N ++ did (Close name normal) ∷ [])) (did Draw ∷ []))
+    (known.log_is ∙ ap (λ lines. N ++ lines) (refused a name origin code N true h)
+    ∙ seam N (did (Close name normal)) (tells_refusal name origin code (N ++ did (Close name normal) ∷ [])) (did Draw ∷ []))
     (ap (list_any draws) (known.acts ∙ ap (filter_map action_of) (refused a name origin code N true h)))
     (draws_where_none name code (told name origin code N) h)
 by_draw a L e name N origin code known false h =
@@ -145,7 +148,8 @@ by_outcome a L e name N u known = leaves_none a L e (known.none (none-obeys_by a
 
 by_event : (a : Made) (L : Log) (e : TimedEvent) → IsTrue (may_come L e) → (ev : NodeEvent) → e.event ≡ ev → Leaves a L e
 by_event a L e h (Came name o) is =
-    by_outcome a L e name (with_heard a L e name o) (outcome a (with_heard a L e name o) name) (record { log_is = came_log a L e name o is; acts = came_acts a L e name o is; none = none_came a L e name o is })
+    by_outcome a L e name (with_heard a L e name o) (outcome a (with_heard a L e name o) name)
+    (record { log_is = came_log a L e name o is; acts = came_acts a L e name o is; none = none_came a L e name o is })
 by_event a L e h ev is = leaves_none a L e (not_came a L e h (ap is_came is))
 
 -- A word is awaited after an event exactly where it drew one.

@@ -1,5 +1,6 @@
 -- Rules whose lines fit where they stand, behind a tied log: how rules are put together, and what follows where a hub
 -- connection changes and where a link ends.
+-- It serves the clauses of `links_begin_anew`.
 use Rattle.std.proofs.Common.{◌≡◌, ℕ, Bool, true, false, not, ◌&&◌, List, [], ◌∷◌, ◌++◌, Option, Some, None, refl, ap, sym, ◌∙◌, subst}
 use Rattle.std.specs.Prelude.{⊤, map, unwrap_or}
 use Rattle.std.specs.List.{list_all}

@@ -1,4 +1,5 @@
 -- What follows from an event fits where it stands: from each event between two others, and from the start.
+-- It serves the clauses of `links_begin_anew`.
 use Rattle.std.proofs.Common.{◌≡◌, ℕ, Bool, true, false, not, ◌&&◌, List, [], ◌∷◌, ◌++◌, Option, Some, None, inl, inr, refl, ap, sym, ◌∙◌, subst}
 use Rattle.std.specs.Prelude.{IsTrue}
 use Rattle.std.specs.List.{list_any}

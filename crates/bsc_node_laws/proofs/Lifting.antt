@@ -1,5 +1,6 @@
 -- One event that a run gives to its node: where it may come, it is one of the definition's too, and what a run has in hand
 -- agrees with the log after it.
+-- It serves bsc_application, bsc_node_command and bsc_node_links.
 use Rattle.std.proofs.Common.{◌≡◌, ◌≤◌, ◌<◌, ℕ, Bool, true, false, not, List, [], ◌++◌, refl, ap, sym, ◌∙◌, subst, arith}
 use Rattle.std.specs.Prelude.{◌^◌, IsTrue, nat_le, nat_lt, if◌then◌else◌, Option}
 use Rattle.std.specs.List.{list_any}

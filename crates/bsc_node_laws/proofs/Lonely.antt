@@ -1,4 +1,5 @@
 -- The log of a node to which no link comes, over a whole run.
+-- It serves bsc_node_command.
 use Rattle.std.proofs.Common.{◌≡◌, ◌-◌, ℕ, Bool, true, List, [], ◌∷◌, ◌++◌, Option, Some, None, refl, ap, sym, ◌∙◌, subst, append-nil, arith}
 use Rattle.std.specs.List.{list_all}
 use Rattle.bsc_edge.specs.declared.dialled.Dialled.{Dialled}
@@ -53,7 +54,8 @@ module _ {L : Type 0} (a : Made) (talk : L → Option (List Said)) (all : List D
 pub lonely : {L : Type 0} (a : Made) (talk : L → Option (List Said)) (listens : Bool) (end : RunEnd) (turns : ℕ) (script : List Due)
     → list_all (λ (d : Due). is_asked d.event) script ≡ true
     → (c c' : Dialling L) (b b' : Option (List ℕ)) (l l' : Admitting L) (t t' : Option (List ℕ)) (M : Log)
-    → Run (GoesAsDefined a) talk listens end turns script (run_moment [] c b l t) (run_moment M c' b' l' t') → NoLinkCame c.calls c'.calls l.left l'.left → (times : List ℕ) × Grows t t' times × (M ≡ alone a script times)
+    → Run (GoesAsDefined a) talk listens end turns script (run_moment [] c b l t) (run_moment M c' b' l' t') → NoLinkCame c.calls c'.calls l.left l'.left → (times : List ℕ)
+    × Grows t t' times × (M ≡ alone a script times)
 lonely {L = L} a talk listens end turns script asked c c' b b' l l' t t' M r none =
     let all : List Dialled = none.before ++ none.calls in (
       r.times,

@@ -1,4 +1,5 @@
 -- What a node is told keeps a run's hands in agreement with the log, and may be told.
+-- It serves bsc_application, bsc_node_command and bsc_node_links.
 use Rattle.std.proofs.Common.{◌≡◌, ◌⊎◌, inl, inr, ℕ, Bool, true, false, not, ◌||◌, ◌&&◌, List, [], ◌∷◌, ◌++◌, Option, Some, None, is_some, refl, ap, sym, ◌∙◌, subst}
 use Rattle.std.specs.List.{list_any}
 use Rattle.std.proofs.lemmas.List.{append-nil}

@@ -1,5 +1,6 @@
 -- What follows from a machine's step fits where it stands, whichever step it is; and so does what follows where time passes,
 -- where the node is to end, and where the user wants something.
+-- It serves the clauses of `links_begin_anew`.
 use Rattle.std.proofs.Common.{◌≡◌, ℕ, true, false, List, [], ◌∷◌, ◌++◌, Option, Some, None, refl, ap, sym, ◌∙◌}
 use Rattle.std.specs.Prelude.{⊤, not, map}
 use Rattle.std.proofs.lemmas.List.{append_assoc}

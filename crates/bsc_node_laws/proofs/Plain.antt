@@ -1,5 +1,6 @@
 -- Plain lines, which fit wherever they stand: no link begins by them, no slot is released, the connector isn't told of the
 -- primary hub's end, and the end of the node isn't told. Which rules go on by plain lines alone.
+-- It serves the clauses of `links_begin_anew`.
 use Rattle.std.proofs.Common.{◌≡◌, ℕ, Bool, true, false, not, ◌&&◌, List, [], ◌∷◌, ◌++◌, Option, Some, None, refl}
 use Rattle.std.specs.Prelude.{◌==◌}
 use Rattle.std.specs.List.{list_all}

@@ -1,4 +1,5 @@
 -- How a core that takes the definition's steps waits in a run, is how a run of the definition waits.
+-- It serves bsc_node_command.
 use Rattle.std.proofs.Common.{◌≡◌, ◌≤◌, ℕ, Bool, true, inl, inr, List, [], ◌∷◌, Option, Some, None, arith, unwrap_or}
 use Rattle.std.specs.List.{Contains, list_all}
 use Rattle.bsc_edge.specs.declared.said.Said.{Said}
@@ -60,9 +61,11 @@ module _ {N L : Type 0} (goes : N → ℕ → NodeEvent → List Action → N �
   later_rest whole first (t ∷ times) (wait ∷ waits) from newest script early fall asked within n w door M h none (so, inl over) = (so, inl over)
   later_rest whole first (t ∷ times) (wait ∷ waits) from newest script early fall asked within n w door M h none (so, inr (rest, p, x, mid, g, k)) =
       let early_too : first ≤ t = omega (arith, fall.0) in
-      let q : (K : Log) × Turn (Both goes a) talk t (Some first) script rest listens (moment (beside n M) w door) (moment (beside p K) x mid) × Holds a Stands t (FinishBy whole first t) p x K × (x.due ≡ []) =
+      let q : (K : Log) × Turn (Both goes a) talk t (Some first) script rest listens (moment (beside n M) w door) (moment (beside p K) x mid)
+      × Holds a Stands t (FinishBy whole first t) p x K × (x.due ≡ []) =
       turn goes talk a Stands steps t fall.1 (FinishBy whole first t) (Some first) script rest listens n p w x door mid M
-      (λ o y z same b. goes_on_later goes talk a Stands steps t fall.1 (FinishBy whole first t) first n o w y z M (at_later goes a Stands steps talk listens whole first from t n w M fall.0 h) none same b)
+      (λ o y z same b. goes_on_later goes talk a Stands steps t fall.1 (FinishBy whole first t) first n o w y z M
+      (at_later goes a Stands steps talk listens whole first from t n w M fall.0 h) none same b)
       asked (λ d c is due. (d, within d c, is, by_due d.at first t early_too due)) g in (
         so,
         inr (

@@ -1,5 +1,6 @@
 -- What keeps a run's hands in agreement with the log: worlds that have the same, lines that leave each link as it was, and
 -- steps that touch one link alone.
+-- It serves bsc_application, bsc_node_command and bsc_node_links.
 use Rattle.std.proofs.Common.{◌≡◌, ℕ, Bool, true, false, not, cond, ◌||◌, ◌&&◌, List, [], ◌∷◌, ◌++◌, Option, refl, ap, sym, ◌∙◌, subst}
 use Rattle.std.specs.Prelude.{◌==◌, nat_lt, filter, map}
 use Rattle.std.specs.List.{list_all, list_any}

@@ -1,5 +1,6 @@
 -- What a run has written and dialled is what its node told, delivered and dialled, by its log; and a run that ended since
 -- the node told that it has ended has that in its log.
+-- It serves bsc_application, bsc_node_command and bsc_node_links.
 use Rattle.std.proofs.Common.{◌≡◌, ℕ, Bool, true, false, ◌||◌, inl, inr, List, [], ◌∷◌, ◌++◌, Option, Some, None, Result, Ok, Err, refl, ap, sym, ◌∙◌, subst, unwrap_or}
 use Rattle.std.specs.Prelude.{map, filter_map}
 use Rattle.std.specs.Io.KnownBytes.{Appends}
@@ -123,9 +124,17 @@ module _ {L : Type 0} (talk : L → Option (List Said)) where
   does-says (Refuse c) w v d = says-none w v (refuses-still c w.arrived w v d)
   does-says (Put name o) w v d = says-none w v (puts-still name o (w.link name) w v d)
   does-says (Close name c) w v d = says-none w v (closes-still name c (w.link name) w v d)
-  does-says (Deliver d) w v (a, s) = (subst (Appends w.held v.held) (sym (append-nil (delivered_line d))) a, none_dialled w.dialled.calls v.dialled.calls (ap (λ (d : Dialling L). d.calls) s.dialled), s.finished)
-  does-says (Tell note) w v (a, s) =
-      (subst (Appends w.held v.held) (sym (append-nil (note_line note))) a, none_dialled w.dialled.calls v.dialled.calls (ap (λ (d : Dialling L). d.calls) s.dialled), s.finished ∙ ap (λ (p : Bool). p || w.finished) (sym (or_none (is_end note))))
+  does-says (Deliver d) w v (a, s) = (
+    subst (Appends w.held v.held) (sym (append-nil (delivered_line d))) a,
+    none_dialled w.dialled.calls v.dialled.calls (ap (λ (d : Dialling L). d.calls) s.dialled),
+    s.finished,
+  )
+  does-says (Tell note) w v (a, s) = (
+    subst (Appends w.held v.held) (sym (append-nil (note_line note))) a,
+    none_dialled w.dialled.calls v.dialled.calls (ap (λ (d : Dialling L). d.calls) s.dialled),
+    s.finished
+        ∙ ap (λ (p : Bool). p || w.finished) (sym (or_none (is_end note))),
+  )
   does-says Draw w v s = says-none w v (still-same w v s)
 
   -- What is carried out says what its actions say.

@@ -1,4 +1,5 @@
 -- A run that a fault stopped: up to there it is one of the definition too, with each event one that may come.
+-- It serves bsc_application and bsc_node_command.
 use Rattle.std.proofs.Common.{◌≡◌, ◌≤◌, ◌<◌, ℕ, Bool, true, false, inl, inr, List, [], ◌∷◌, ◌++◌, Option, Some, None, refl, ap, sym, ◌∙◌, subst, arith}
 use Rattle.std.specs.Prelude.{◌^◌}
 use Rattle.std.specs.List.{Contains, list_all, list_any}
@@ -45,7 +46,7 @@ module _ {N L : Type 0} (goes : N → ℕ → NodeEvent → List Action → N �
       let s : (actions ≡ actions_at a M (at t e)) × Stands p (M ++ goes_on a (at t e) M) = steps n p M t e actions r.stands r.may g in
       inr (actions, beside p (M ++ goes_on a (at t e) M), (g, (r.may, s.0, refl)), b)
 
-  give_stops : (e : NodeEvent) (n : N) (w v : World L) (M : Log) → Ready a Stands t P talk n w M e → GiveStops goes talk t e n w v → GiveStops (Both goes a) talk t e (beside n M) w v
+  pub give_stops : (e : NodeEvent) (n : N) (w v : World L) (M : Log) → Ready a Stands t P talk n w M e → GiveStops goes talk t e n w v → GiveStops (Both goes a) talk t e (beside n M) w v
   give_stops e n w v M r (inl s) = inl (stops_at e n w v M r s)
   give_stops e n w v M r (inr (actions, p, x, word, g, c, drawn, brings, s)) =
       inr (actions, beside p K, x, word, (g, (r.may, k.0, refl)), c, drawn, brings, stops_at word p x v K next s)
@@ -99,7 +100,8 @@ module _ {N L : Type 0} (goes : N → ℕ → NodeEvent → List Action → N �
   heard_ready name e n w x M (Some k) is h named none up (l, given, ok, grows, told, same) =
       ready_heard goes talk a Stands steps t below P name k l given e n w x M (record { held = h; named = named; none = none; up = up; is = is }) ok told same
 
-  hear_stops : (name : LinkName) (n : N) (w v : World L) (M : Log) → Held n w M → is_name name ≡ true → w.due ≡ [] → HearStops goes talk t name n w v → HearStops (Both goes a) talk t name (beside n M) w v
+  hear_stops : (name : LinkName) (n : N) (w v : World L) (M : Log) → Held n w M → is_name name ≡ true → w.due ≡ [] → HearStops goes talk t name n w v
+      → HearStops (Both goes a) talk t name (beside n M) w v
   hear_stops name n w v M h named none (up, inl quiet) = (up, inl quiet)
   hear_stops name n w v M h named none (up, inr (e, x, r, s)) =
       (up, inr (e, x, r, give_stops e n x v M (heard_ready name e n w x M (w.link name) refl h named none up r) s))
@@ -132,7 +134,8 @@ module _ {N L : Type 0} (goes : N → ℕ → NodeEvent → List Action → N �
 
   from_lines : (passed : ℕ) (script : List Due) (listens : Bool) (n : N) (w v : World L) (door door' : Admitting L) (M : Log) → Held n w M → w.due ≡ []
       → list_all asks script ≡ true → ((d : Due) → Contains script d → d.event ≡ Finish → d.at ≤ passed → P)
-      → StopsFromLines goes talk t passed script listens (moment n w door) (in_hands v door') → StopsFromLines (Both goes a) talk t passed script listens (moment (beside n M) w door) (in_hands v door')
+      → StopsFromLines goes talk t passed script listens (moment n w door) (in_hands v door')
+      → StopsFromLines (Both goes a) talk t passed script listens (moment (beside n M) w door) (in_hands v door')
   from_lines passed script listens n w v door door' M h none asked over (lines, rest, parts, due, inl (s, stays)) = (
     lines,
     rest,
@@ -172,7 +175,7 @@ module _ {N L : Type 0} (goes : N → ℕ → NodeEvent → List Action → N �
       inr (beside p q.0, x, q.1, from_news passed script listens p x v door door' q.0 q.2 asked over k)
 
   -- A turn that stopped, whose start is lifted, is lifted as far as it went.
-  turn_stops : (start : Option ℕ) (script : List Due) (listens : Bool) (n : N) (w v : World L) (door door' : Admitting L) (M : Log)
+  pub turn_stops : (start : Option ℕ) (script : List Due) (listens : Bool) (n : N) (w v : World L) (door door' : Admitting L) (M : Log)
       → ((p : N) (x y : World L) → Same x (begun w) → Starts goes talk t start n x p y → (K : Log) × Starts (Both goes a) talk t start (beside n M) x (beside p K) y × Held p y K)
       → ((x y : World L) → Same x (begun w) → StartStops goes talk t start n x y → StartStops (Both goes a) talk t start (beside n M) x y)
       → list_all asks script ≡ true → ((d : Due) → Contains script d → d.event ≡ Finish → d.at ≤ passed_by start t → P)
@@ -197,16 +200,19 @@ module _ {N L : Type 0} (goes : N → ℕ → NodeEvent → List Action → N �
         inl (
           over,
           turn_stops goes talk a Stands steps t fall.1 (FinishBy whole first t) (Some first) script listens n w v door door' M
-              (λ o y z same b. goes_on_later goes talk a Stands steps t fall.1 (FinishBy whole first t) first n o w y z M (at_later goes a Stands steps talk listens whole first from t n w M fall.0 h) none same b)
+              (λ o y z same b. goes_on_later goes talk a Stands steps t fall.1 (FinishBy whole first t) first n o w y z M
+              (at_later goes a Stands steps talk listens whole first from t n w M fall.0 h) none same b)
               (λ x y same b. absurd b)
               asked (λ d c is due. (d, within d c, is, by_due d.at first t early_too due)) s,
         ),
       )
   later_stops whole first (t ∷ times) from script early fall asked within n w v door door' M h none (going, inr (rest, p, x, mid, g, k)) =
       let early_too : first ≤ t = omega (arith, fall.0) in
-      let q : (K : Log) × Turn (Both goes a) talk t (Some first) script rest listens (moment (beside n M) w door) (moment (beside p K) x mid) × Holds a Stands t (FinishBy whole first t) p x K × (x.due ≡ []) =
+      let q : (K : Log) × Turn (Both goes a) talk t (Some first) script rest listens (moment (beside n M) w door) (moment (beside p K) x mid)
+      × Holds a Stands t (FinishBy whole first t) p x K × (x.due ≡ []) =
       turn goes talk a Stands steps t fall.1 (FinishBy whole first t) (Some first) script rest listens n p w x door mid M
-      (λ o y z same b. goes_on_later goes talk a Stands steps t fall.1 (FinishBy whole first t) first n o w y z M (at_later goes a Stands steps talk listens whole first from t n w M fall.0 h) none same b)
+      (λ o y z same b. goes_on_later goes talk a Stands steps t fall.1 (FinishBy whole first t) first n o w y z M
+      (at_later goes a Stands steps talk listens whole first from t n w M fall.0 h) none same b)
       asked (λ d c is due. (d, within d c, is, by_due d.at first t early_too due)) g in (
         going,
         inr (
@@ -231,7 +237,8 @@ module _ {N L : Type 0} (goes : N → ℕ → NodeEvent → List Action → N �
       over,
       turn_stops goes talk a Stands steps t fall.1 (FinishBy script t t) None script listens n w v door door' []
           (λ o y z same b. started goes talk a Stands steps t fall.1 (FinishBy script t t) n o y z s (at_first calls text w empty y same) b)
-          (λ x y same b. give_stops goes talk a Stands steps t fall.1 (FinishBy script t t) Start n x y [] (ready_start goes talk a Stands steps t fall.1 (FinishBy script t t) n x s (at_first calls text w empty x same)) b)
+          (λ x y same b. give_stops goes talk a Stands steps t fall.1 (FinishBy script t t) Start n x y []
+          (ready_start goes talk a Stands steps t fall.1 (FinishBy script t t) n x s (at_first calls text w empty x same)) b)
           asked (λ d c is due. (d, c, is, by_due d.at t t (omega arith) due)) r,
     ),
   )

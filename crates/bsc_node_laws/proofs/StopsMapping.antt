@@ -1,4 +1,5 @@
 -- A run of one core that a fault stopped is one of another, where each step of the one is a step of the other.
+-- It serves bsc_application, bsc_node_command and bsc_node_links.
 use Rattle.std.proofs.Common.{ℕ, Bool, true, false, inl, inr, List, [], ◌∷◌, Option, Some, None, unwrap_or}
 use Rattle.bsc_edge.specs.declared.said.Said.{Said}
 use Rattle.bsc_node.specs.declared.link_name.LinkName.{LinkName}
@@ -45,7 +46,8 @@ module _ {N P L : Type 0} (goes : N → ℕ → NodeEvent → List Action → N 
   each_stop (name ∷ links) n w v (inl s) = inl (hear_stops name n w v s)
   each_stop (name ∷ links) n w v (inr (p, x, g, k)) = inr (f p, x, hears_map goes goes' f step talk t name (is_open name w) n p w x g, each_stop links p x v k)
 
-  admit_stops : (listens : Bool) (n : N) (w v : World L) (door door' : Admitting L) → AdmitStops goes talk t listens (moment n w door) (in_hands v door') → AdmitStops goes' talk t listens (moment (f n) w door) (in_hands v door')
+  admit_stops : (listens : Bool) (n : N) (w v : World L) (door door' : Admitting L) → AdmitStops goes talk t listens (moment n w door) (in_hands v door')
+      → AdmitStops goes' talk t listens (moment (f n) w door) (in_hands v door')
   admit_stops false n w v door door' s = absurd s
   admit_stops true n w v door door' (waits, inl k) = (waits, inl k)
   admit_stops true n w v door door' (waits, inr (l, one, s)) = (waits, inr (l, one, give_map Arrived n (record w { arrived = Some l }) v s))

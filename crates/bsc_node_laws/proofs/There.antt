@@ -1,4 +1,5 @@
 -- Which links are there, were taken and have opened, once one line more stands in the log.
+-- It serves the clauses of `links_begin_anew`.
 use Rattle.std.proofs.Common.{◌≡◌, ℕ, Bool, true, false, not, ◌||◌, ◌&&◌, List, [], ◌∷◌, ◌++◌, Option, Some, None, is_some, refl, ap, sym, ◌∙◌}
 use Rattle.std.specs.Prelude.{filter_map, unwrap_or}
 use Rattle.std.specs.List.{list_all, list_any}

@@ -1,5 +1,6 @@
 -- What is tied together in the log of a node while lines come about: the primary hub's link and the connector, the links in
 -- slots and the slots.
+-- It serves the clauses of `links_begin_anew`.
 use Rattle.std.proofs.Common.{◌≡◌, ℕ, true, false, List, [], ◌∷◌, ◌++◌, None}
 use Rattle.std.specs.Prelude.{⊤}
 use Rattle.bsc_connector.specs.declared.side.Side.TheVariants.{Primary, Failover}

@@ -1,4 +1,5 @@
 -- One turn of a run: each event that it gives to its node is one that may come, and so it is a turn of the definition too.
+-- It serves bsc_application, bsc_node_command and bsc_node_links.
 use Rattle.std.proofs.Common.{◌≡◌, ◌≤◌, ◌<◌, ℕ, Bool, true, false, inl, inr, List, [], ◌∷◌, ◌++◌, Option, Some, None, Result, Ok, Err, refl, ap, sym, ◌∙◌, subst, arith}
 use Rattle.std.specs.Prelude.{◌^◌, IsTrue}
 use Rattle.std.specs.List.{Contains, list_all}
@@ -375,14 +376,16 @@ module _ {N L : Type 0} (goes : N → ℕ → NodeEvent → List Action → N �
       q3 : (K : Log) × GivesNews (Both goes a) talk t g.news (beside g.node_ticked q2.0) g.world_ticked (beside g.node_told K) g.world_told × Held g.node_told g.world_told K × (g.world_told.due ≡ [])
       q3 = given_news g.news g.node_ticked g.node_told g.world_ticked g.world_told q2.0 q2.2 g.told
 
-      q4 : (K : Log) × GivesLines (Both goes a) talk t g.lines (beside g.node_told q3.0) g.world_told (beside g.node_given K) g.world_given × Held g.node_given g.world_given K × (g.world_given.due ≡ [])
+      q4 : (K : Log) × GivesLines (Both goes a) talk t g.lines (beside g.node_told q3.0) g.world_told (beside g.node_given K) g.world_given × Held g.node_given g.world_given K
+          × (g.world_given.due ≡ [])
       q4 = given_lines (passed_by start t) g.lines
           (and_left (list_all asks g.lines) (list_all asks rest)
           (sym (ap (list_all asks) g.parts ∙ list_all-append asks g.lines rest) ∙ asked))
           g.due (λ d c. over d (subst (λ (lines : List Due). Contains lines d) (sym g.parts) (Contains-append_left g.lines rest d c)))
           g.node_told g.node_given g.world_told g.world_given q3.0 q3.2 q3.3 g.given
 
-      q5 : (K : Log) × HearsEach (Both goes a) talk t names (beside g.node_given q4.0) g.world_given (beside g.node_heard K) g.world_heard × Held g.node_heard g.world_heard K × (g.world_heard.due ≡ [])
+      q5 : (K : Log) × HearsEach (Both goes a) talk t names (beside g.node_given q4.0) g.world_given (beside g.node_heard K) g.world_heard × Held g.node_heard g.world_heard K
+          × (g.world_heard.due ≡ [])
       q5 = heard_each names g.node_given g.node_heard g.world_given g.world_heard q4.0 refl q4.2 q4.3 g.heard
 
       q6 : (K : Log) × Admits (Both goes a) talk t listens (moment (beside g.node_heard q5.0) g.world_heard door) (moment (beside m K) v door') × Held m v K × (v.due ≡ [])

@@ -1,4 +1,5 @@
 -- Nodes to which no link comes, written out: what they write and dial, by computation.
+-- No clause needs it: worked examples.
 use Rattle.std.proofs.Common.{◌≡◌, ℕ, List, [], ◌∷◌, ◌++◌, Option, Some, None, refl, replicate}
 use Rattle.std.specs.Prelude.{codes}
 use Rattle.bsc_octets.specs.declared.vmac.Vmac.{Vmac}

@@ -1,4 +1,5 @@
 -- The events that came in a run: each might come, and each Send is that of a line of the script.
+-- It serves the clauses of `stopped_runs_have_logs` and `stopped_scripts_have_logs`.
 use Rattle.std.proofs.Common.{◌≡◌, inl, inr, ℕ, Bool, true, false, List, [], ◌∷◌, ◌++◌, fold, Option, Some, None, Result, Ok, Err, refl, ap, sym, subst, ◌∙◌}
 use Rattle.std.specs.Prelude.{IsTrue}
 use Rattle.std.specs.List.{Contains}
@@ -136,7 +137,8 @@ module _ {L : Type 0} (a : Made) (talk : L → Option (List Said)) (script : Lis
   hears_each [] M w N v (e, s) = went-none a script M N e
   hears_each (name ∷ all) M w N v (P, x, h, later) = went-then a script M P N (hears_if name (is_open name w) M w P x h) (hears_each all P x N v later)
 
-  admits : (listens : Bool) (M : Log) (w : World L) (door : Admitting L) (N : Log) (v : World L) (door' : Admitting L) → Admits (GoesAsDefined a) talk now listens (moment M w door) (moment N v door') → Went a script M N
+  admits : (listens : Bool) (M : Log) (w : World L) (door : Admitting L) (N : Log) (v : World L) (door' : Admitting L)
+      → Admits (GoesAsDefined a) talk now listens (moment M w door) (moment N v door') → Went a script M N
   admits false M w door N v door' (e, s, same) = went-none a script M N e
   admits true M w door N v door' (waits, inl (e, s, none)) = went-none a script M N e
   admits true M w door N v door' (waits, inr (l, leaves, g)) = gives Arrived M (record w { arrived = Some l }) N v tt g

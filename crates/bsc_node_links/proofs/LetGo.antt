@@ -1,5 +1,7 @@
 -- The links of a run that a fault stopped: all are let go then, and the lines of the log that weren't done let none come.
-use Rattle.std.proofs.Common.{◌≡◌, inl, inr, ℕ, ◌+◌, Bool, true, false, List, [], ◌∷◌, ◌++◌, length, length-append, Option, Some, None, Result, Ok, Err, refl, ap, sym, subst, ◌∙◌, append-nil, append_assoc}
+-- It serves the clauses of `stopped_runs_have_logs` and `stopped_scripts_have_logs`.
+use Rattle.std.proofs.Common.{◌≡◌, inl, inr, ℕ, ◌+◌, Bool, true, false, List, [], ◌∷◌, ◌++◌, length, length-append, Option, Some, None, Result, Ok, Err, refl, ap, sym, subst, ◌∙◌}
+use Rattle.std.proofs.Common.{append-nil, append_assoc}
 use Rattle.std.specs.Prelude.{filter_map, option_to_list, slice_get}
 use Rattle.std.specs.List.{list_any}
 use Rattle.bsc_accept.specs.declared.closing.Closing.{Closing}
@@ -41,7 +43,8 @@ use Rattle.bsc_node_links.specs.Coming.{EachTaken, HasDialled, IsTakenBy, LeftBy
 use Rattle.bsc_node_links.specs.Lives.{LinkLife, given_by, given_over, lines_since, put_by, put_over}
 use Rattle.bsc_node_links.specs.Stopped.{HasDialledFirst, LinksAreUsedFirst}
 use Rattle.bsc_node_links.specs.Using.{HasUse, LinksAreUsed, Outside}
-use Rattle.bsc_node_links.proofs.Using.{Admitted, EachStands, HasArrived, StandsBy, StandsSo, Uses, arrived_more, carries_none, closes_uses, dial_named, does_uses, lines_more, more_put, new_link, none_in_hand, puts_uses, quiet, same_self, says, so, step_each, still, taken_more, touch, uncalled, used, uses_alike}
+use Rattle.bsc_node_links.proofs.Using.{Admitted, EachStands, HasArrived, StandsBy, StandsSo, Uses, arrived_more, carries_none, closes_uses, dial_named, does_uses, lines_more}
+use Rattle.bsc_node_links.proofs.Using.{more_put, new_link, none_in_hand, puts_uses, quiet, same_self, says, so, step_each, still, taken_more, touch, uncalled, used, uses_alike}
 use Rattle.bsc_node_links.proofs.Walking.{opened_use, opens_do_nothing}
 
 -- ---- a link that came, and was let go at once
@@ -89,7 +92,8 @@ module _ {L : Type 0} (talk : L → Option (List Said)) (d : Dialling L) (first 
 
   -- ---- lines that weren't done
 
-  first_more : (e : Dialling L) (M : Log) (K : List (Option L)) (m : Line) (c : Option L) → length K ≡ length M → link_by m c ≡ [] → HasDialledFirst d e M K → HasDialledFirst d e (M ++ m ∷ []) (K ++ c ∷ [])
+  first_more : (e : Dialling L) (M : Log) (K : List (Option L)) (m : Line) (c : Option L) → length K ≡ length M → link_by m c ≡ [] → HasDialledFirst d e M K
+      → HasDialledFirst d e (M ++ m ∷ []) (K ++ c ∷ [])
   first_more e M K m c long none h = record {
     called = h.called;
     uncalled = h.uncalled ++ dialled_by m c;
@@ -150,11 +154,13 @@ module _ {L : Type 0} (talk : L → Option (List Said)) (d : Dialling L) (first 
 
   dial_part : (name : LinkName) (uri : List ℕ) (given : Result L LinkFault) (w v : World L) (M : Log) → is_there name M ≡ false → is_name name ≡ true
       → Grows w.dialled.calls v.dialled.calls (dialled uri (kind_of name) given ∷ []) → LeavesBehind w.dialled.left v.dialled.left given → Grows w.dialled.came v.dialled.came (made_in given)
-      → Same v (record (with_dialled name given w) { dialled = v.dialled }) → Agrees w M → Uses talk d first door w M → Uses talk d first door v (M ++ did (Dial name uri) ∷ []) × (v.arrived ≡ w.arrived)
+      → Same v (record (with_dialled name given w) { dialled = v.dialled }) → Agrees w M → Uses talk d first door w M → Uses talk d first door v (M ++ did (Dial name uri) ∷ [])
+      × (v.arrived ≡ w.arrived)
   dial_part name uri (Ok l) w v M out named grew behind came_so s A u =
       let m : Line = did (Dial name uri) in
       let it : begins name m ≡ true = begins-dial name name uri ∙ same_link-self name in (
-        touch talk d first door name w v M m (Some l) (grew, left_so w.dialled.left v.dialled.left (Ok l) behind, came_so) (ap option_to_list s.arrived) tt (λ other ne. s.link other ∙ (apart-link name (Some l) w).link other ne) (λ other ne. begins-dial other name uri ∙ ne) (λ other ne. refl) (λ other ne. refl)
+        touch talk d first door name w v M m (Some l) (grew, left_so w.dialled.left v.dialled.left (Ok l) behind, came_so) (ap option_to_list s.arrived) tt
+            (λ other ne. s.link other ∙ (apart-link name (Some l) w).link other ne) (λ other ne. begins-dial other name uri ∙ ne) (λ other ne. refl) (λ other ne. refl)
             (λ z g p b h. no_true (StandsSo talk z (v.link name) (g ++ []) (p ++ [])) (begins name m) b it)
             (λ b. so talk (Some (Some l)) (Some l) (v.link name) [] [] [] [] (sym (s.link name ∙ link-here name (Some l) w named)) refl refl (new_link talk d first door l)) u,
         s.arrived,
@@ -162,7 +168,8 @@ module _ {L : Type 0} (talk : L → Option (List Said)) (d : Dialling L) (first 
   dial_part name uri (Err fault) w v M out named grew behind came_so s A u =
       let m : Line = did (Dial name uri) in
       let it : begins name m ≡ true = begins-dial name name uri ∙ same_link-self name in (
-        touch talk d first door name w v M m None (grew, left_so w.dialled.left v.dialled.left (Err fault) behind, came_so) (ap option_to_list s.arrived) tt (λ other ne. s.link other) (λ other ne. begins-dial other name uri ∙ ne) (λ other ne. refl) (λ other ne. refl)
+        touch talk d first door name w v M m None (grew, left_so w.dialled.left v.dialled.left (Err fault) behind, came_so) (ap option_to_list s.arrived) tt (λ other ne. s.link other)
+            (λ other ne. begins-dial other name uri ∙ ne) (λ other ne. refl) (λ other ne. refl)
             (λ z g p b h. no_true (StandsSo talk z (v.link name) (g ++ []) (p ++ [])) (begins name m) b it)
             (λ b. so talk (Some None) None (v.link name) [] [] [] [] (sym (s.link name ∙ none_in_hand name w M out A)) refl refl (None, refl, refl)) u,
         s.arrived,
@@ -175,7 +182,8 @@ module _ {L : Type 0} (talk : L → Option (List Said)) (d : Dialling L) (first 
       let named : is_name name ≡ true = in_hand_named name l w M e A in
       let now : Some m ≡ v.link name = sym (s.link name ∙ link-here name (Some m) w named) in
       let it : o ∷ [] ≡ put_by name (did (Put name o)) = rw (same_link-self name) refl in (
-        touch talk d first door name w v M (did (Put name o)) None (uncalled w.dialled v.dialled s.dialled) (ap option_to_list s.arrived) tt (λ other ne. s.link other ∙ (apart-link name (Some m) w).link other ne) (λ other ne. refl) (λ other ne. refl) (λ other ne. rw ne refl)
+        touch talk d first door name w v M (did (Put name o)) None (uncalled w.dialled v.dialled s.dialled) (ap option_to_list s.arrived) tt
+            (λ other ne. s.link other ∙ (apart-link name (Some m) w).link other ne) (λ other ne. refl) (λ other ne. refl) (λ other ne. rw ne refl)
             (λ z g p b h. so talk z (Some m) (v.link name) (g ++ []) (g ++ []) (p ++ o ∷ []) (p ++ put_by name (did (Put name o))) now refl (ap (λ (x : List (List ℕ)). p ++ x) it)
             (says talk z l m (SaidPut o (Some NoMemory)) g p grew (so talk z (w.link name) (Some l) g g p p e refl refl h)))
             (λ b. cc) u,
@@ -244,12 +252,14 @@ module _ {L : Type 0} (a : Made) (talk : L → Option (List Said)) (d0 : Diallin
       (undone talk d0 a0 D w.dialled None g.lines N g.may (gone_none talk d0 a0 D w N none (opened_use a talk d0 a0 D w (with_event M e) e.event u)))
 
   -- .. or it was broken off
-  pub broken_off : (M : Log) (e : TimedEvent) (w v : World L) → LogGoesOn a M e → w.arrived ≡ None → Agrees w (with_event M e ++ opens_at e.event (with_event M e)) → Uses talk d0 a0 D w (with_event M e)
+  pub broken_off : (M : Log) (e : TimedEvent) (w v : World L) → LogGoesOn a M e → w.arrived ≡ None → Agrees w (with_event M e ++ opens_at e.event (with_event M e))
+      → Uses talk d0 a0 D w (with_event M e)
       → Breaks talk (actions_at a M e) w v → Gone talk d0 a0 D v.dialled None (M ++ goes_on a e M)
   broken_off M e w v g none A u b =
       subst (Gone talk d0 a0 D v.dialled None) (sym (ap (λ lines. M ++ lines) g.is ∙ seam M (came e) (opens_at e.event (with_event M e)) g.lines))
       (breaks_gone talk d0 a0 D g.lines w v (with_event M e ++ opens_at e.event (with_event M e)) g.may
-      (subst (λ actions. Breaks talk actions w v) (ap (filter_map action_of) g.is ∙ opens_do_nothing e.event (with_event M e) g.lines) b) none A (opened_use a talk d0 a0 D w (with_event M e) e.event u))
+      (subst (λ actions. Breaks talk actions w v) (ap (filter_map action_of) g.is ∙ opens_do_nothing e.event (with_event M e) g.lines) b) none A
+      (opened_use a talk d0 a0 D w (with_event M e) e.event u))
 
   -- that a link arrives
   pub arrival_unmet : (M : Log) (t : ℕ) (l : L) (w : World L) → w.arrived ≡ Some l → AdmitsIn a M (at t Arrived) → Uses talk d0 a0 D w (with_event M (at t Arrived))

@@ -1,4 +1,5 @@
 -- The words of worked nodes: a node at a hub, with the VMAC 02000000000A, as A has it in the worked talks of `bsc_session`.
+-- It serves bsc_network_of_runs.
 use Rattle.std.proofs.Common.{ℕ, List, [], ◌∷◌, None}
 use Rattle.std.specs.Prelude.{codes}
 use Rattle.bsc_octets.specs.Identities.{identity_of}

@@ -1,4 +1,5 @@
 -- A run that a fault stopped has a log: up to its last event it is as any run, and of that event the first part was done.
+-- It serves the clauses of `stopped_runs_have_logs` and `stopped_scripts_have_logs`.
 use Rattle.std.proofs.Common.{◌≡◌, ◌<◌, inl, inr, ℕ, Bool, true, false, List, [], ◌∷◌, ◌++◌, Option, Some, None, Result, Ok, Err, refl, ap, sym, subst, ◌∙◌, append-nil}
 use Rattle.std.specs.Prelude.{◌^◌, filter_map, IsTrue, option_to_list, slice_get, ⊤}
 use Rattle.std.specs.List.{list_all, list_any}
@@ -64,7 +65,9 @@ use Rattle.bsc_node_links.proofs.Events.{AreIn, Went, in-all, in-first, in-later
 use Rattle.bsc_node_links.proofs.Written.{Wrote, breaks_write, prefix_none, wrote_none, wrote_then}
 use Rattle.bsc_node_links.proofs.LetGo.{Gone, arrival_broken, arrival_unmet, broken_off, gone_none, unmet}
 use Rattle.bsc_node_links.proofs.Using.{IsGone, StandsBy, StandsSo, Uses, carries_none, let_go, none_came, one_came, redoor, says, so, stays}
-use Rattle.bsc_node_links.proofs.Walking.{Fine, Is, asked_message, asked_plain, brought_of, event_use, fine_later, first_turn, given_plainly, goes_use, hears_each, hears_if, hears_use, later_turn, lines_given, log_alone, log_steps, news_message, news_no_arrival, news_use, none_used, plain_agrees, plain_no_arrival, turn_uses, word_ends, word_message, word_plain}
+use Rattle.bsc_node_links.proofs.Walking.{Fine, Is, asked_message, asked_plain, brought_of, event_use, fine_later, first_turn, given_plainly, goes_use, hears_each, hears_if}
+use Rattle.bsc_node_links.proofs.Walking.{hears_use, later_turn, lines_given, log_alone, log_steps, news_message, news_no_arrival, news_use, none_used, plain_agrees}
+use Rattle.bsc_node_links.proofs.Walking.{plain_no_arrival, turn_uses, word_ends, word_message, word_plain}
 
 -- that a link is over gives nothing
 last_gives : (given : Result Incoming LinkFault) → IsLast given → said_given (Gave link_wait given) ≡ []
@@ -192,20 +195,23 @@ module _ {L : Type 0} (a : Made) (talk : L → Option (List Said)) (d0 : Diallin
   lines_stop passed (d ∷ lines) within asked due n w v f (inl s) =
       let here : is_asked d.event ≡ true = and_left (is_asked d.event) (list_all asks lines) asked in
       give_stops d.event n w v (ready_line (GoesAsDefined a) talk a Is (log_steps a) t below ⊤ passed d here due.0 (λ finish over. tt) n w n f.0) (line_of script d (in-first script d lines within))
-      (plain_no_arrival d.event (asked_plain d.event here)) (plain_agrees a talk d0 a0 D w n t d.event (asked_plain d.event here) (event_keeps w n (at t d.event) (asked-ends d.event here) f.0.0.agrees))
+      (plain_no_arrival d.event (asked_plain d.event here)) (plain_agrees a talk d0 a0 D w n t d.event (asked_plain d.event here)
+      (event_keeps w n (at t d.event) (asked-ends d.event here) f.0.0.agrees))
       (event_use a talk d0 a0 D w w n t d.event (asked_message d.event here) refl refl (λ name. refl) f.1) f.2 s
   lines_stop passed (d ∷ lines) within asked due n w v f (inr (p, x, g, k)) =
       let here : is_asked d.event ≡ true = and_left (is_asked d.event) (list_all asks lines) asked in
       onward v w x n p (gives-between a talk t d.event n w p x g) (Events.gives a talk script t d.event n w p x (line_of script d (in-first script d lines within)) g)
       (lines_stop passed lines (in-later script d lines within) (and_right (is_asked d.event) (list_all asks lines) asked) due.1 p x v
       (given_plainly a talk d0 a0 D t below n p w x d.event (ready_line (GoesAsDefined a) talk a Is (log_steps a) t below ⊤ passed d here due.0 (λ finish over. tt) n w n f.0)
-      (plain_no_arrival d.event (asked_plain d.event here)) (plain_agrees a talk d0 a0 D w n t d.event (asked_plain d.event here) (event_keeps w n (at t d.event) (asked-ends d.event here) f.0.0.agrees))
+      (plain_no_arrival d.event (asked_plain d.event here)) (plain_agrees a talk d0 a0 D w n t d.event (asked_plain d.event here)
+      (event_keeps w n (at t d.event) (asked-ends d.event here) f.0.0.agrees))
       (event_use a talk d0 a0 D w w n t d.event (asked_message d.event here) refl refl (λ name. refl) f.1) f.2 g) k)
 
   -- ---- what a link gave
 
   -- A link was called, by which nothing was given and nothing was put: no line is written.
-  called_use : (name : LinkName) (k l : L) (s : Said) (o : Option L) (w v : World L) (M : Log) → is_name name ≡ true → w.link name ≡ Some k → Grows (talk k) (talk l) (s ∷ []) → said_given s ≡ [] → said_put s ≡ []
+  called_use : (name : LinkName) (k l : L) (s : Said) (o : Option L) (w v : World L) (M : Log) → is_name name ≡ true → w.link name ≡ Some k → Grows (talk k) (talk l) (s ∷ [])
+      → said_given s ≡ [] → said_put s ≡ []
       → ((z : Option (Option L)) (g p : List (List ℕ)) → StandsSo talk z (Some l) g p → StandsSo talk z o g p) → Same v (with_link name o w) → Uses talk d0 a0 D w M → Uses talk d0 a0 D v M
   called_use name k l s o w v M named is grew gave put left same u = stays talk d0 a0 D w v M same.dialled same.arrived (λ other z g p h. by other z g p (same_link name other) refl h) u
     where
@@ -240,27 +246,35 @@ module _ {L : Type 0} (a : Made) (talk : L → Option (List Said)) (d0 : Diallin
       let here : given_by name (came (at t (Came name o))) ≡ o ∷ [] = rw (same_link-self name) refl in
       subst (λ (h : Option (List ℕ)). Over v h n) same.held
       (give_stops (Came name o) n x v (ready_heard (GoesAsDefined a) talk a Is (log_steps a) t below ⊤ name k l (Ok (Message o)) (Came name o) n w x n h tt refl same) tt refl
-      (plain_agrees a talk d0 a0 D x n t (Came name o) refl (event_keeps x n (at t (Came name o)) (λ other. refl) (agrees-same x (with_link name (Some l) w) n same (hears_keeps name k l w n h.named h.is h.held.0.agrees))))
-      (hears_use a talk d0 a0 D t below name k l (Gave link_wait (Ok (Message o))) (Some l) w x n (came (at t (Came name o))) h.named h.is grew (λ z g p s. s) same.link same.dialled same.arrived (λ other. refl) (λ other ne. rw ne refl) here (λ other. refl) refl (λ h. h) (λ h. ap option_to_list h) (λ c e. tt) u)
+      (plain_agrees a talk d0 a0 D x n t (Came name o) refl (event_keeps x n (at t (Came name o)) (λ other. refl)
+      (agrees-same x (with_link name (Some l) w) n same (hears_keeps name k l w n h.named h.is h.held.0.agrees))))
+      (hears_use a talk d0 a0 D t below name k l (Gave link_wait (Ok (Message o))) (Some l) w x n (came (at t (Came name o))) h.named h.is grew
+      (λ z g p s. s) same.link same.dialled same.arrived (λ other. refl) (λ other ne. rw ne refl) here (λ other. refl) refl (λ h. h) (λ h. ap option_to_list h) (λ c e. tt) u)
       (same.arrived ∙ none) (subst (λ (d : NodeEvent). GiveStops (GoesAsDefined a) talk t d n x v) (same_Some e (Came name o) told) s))
   heard name k l (Ok Text) e n w x v h u none ok grew told same s =
       subst (λ (h : Option (List ℕ)). Over v h n) same.held
       (give_stops (CameText name) n x v (ready_heard (GoesAsDefined a) talk a Is (log_steps a) t below ⊤ name k l (Ok Text) (CameText name) n w x n h tt refl same) tt refl
-      (plain_agrees a talk d0 a0 D x n t (CameText name) refl (event_keeps x n (at t (CameText name)) (λ other. refl) (agrees-same x (with_link name (Some l) w) n same (hears_keeps name k l w n h.named h.is h.held.0.agrees))))
-      (hears_use a talk d0 a0 D t below name k l (Gave link_wait (Ok Text)) (Some l) w x n (came (at t (CameText name))) h.named h.is grew (λ z g p s. s) same.link same.dialled same.arrived (λ other. refl) (λ other ne. refl) refl (λ other. refl) refl (λ h. h) (λ h. ap option_to_list h) (λ c e. tt) u)
+      (plain_agrees a talk d0 a0 D x n t (CameText name) refl (event_keeps x n (at t (CameText name)) (λ other. refl)
+      (agrees-same x (with_link name (Some l) w) n same (hears_keeps name k l w n h.named h.is h.held.0.agrees))))
+      (hears_use a talk d0 a0 D t below name k l (Gave link_wait (Ok Text)) (Some l) w x n (came (at t (CameText name))) h.named h.is grew (λ z g p s. s) same.link same.dialled same.arrived
+      (λ other. refl) (λ other ne. refl) refl (λ other. refl) refl (λ h. h) (λ h. ap option_to_list h) (λ c e. tt) u)
       (same.arrived ∙ none) (subst (λ (d : NodeEvent). GiveStops (GoesAsDefined a) talk t d n x v) (same_Some e (CameText name) told) s))
   heard name k l (Ok Quiet) e n w x v h u none ok grew told same s = absurd (none-some e (sym told))
   heard name k l (Ok Closed) e n w x v h u none ok grew told same s =
       subst (λ (h : Option (List ℕ)). Over v h n) same.held
       (give_stops (Lost name) n x v (ready_heard (GoesAsDefined a) talk a Is (log_steps a) t below ⊤ name k l (Ok Closed) (Lost name) n w x n h tt refl same) tt refl
-      (plain_agrees a talk d0 a0 D x n t (Lost name) refl (agrees-same x (ends name l w) (with_event n (at t (Lost name))) same (lost_keeps name l w n (at t (Lost name)) refl h.named h.none h.up h.held.0.agrees)))
-      (hears_use a talk d0 a0 D t below name k l (Gave link_wait (Ok Closed)) None w x n (came (at t (Lost name))) h.named h.is grew (λ z g p s. let_go talk z l g p s) same.link same.dialled same.arrived (λ other. refl) (λ other ne. refl) refl (λ other. refl) refl (λ h. h) (λ h. ap option_to_list h) (λ c e. tt) u)
+      (plain_agrees a talk d0 a0 D x n t (Lost name) refl (agrees-same x (ends name l w) (with_event n (at t (Lost name))) same
+      (lost_keeps name l w n (at t (Lost name)) refl h.named h.none h.up h.held.0.agrees)))
+      (hears_use a talk d0 a0 D t below name k l (Gave link_wait (Ok Closed)) None w x n (came (at t (Lost name))) h.named h.is grew
+      (λ z g p s. let_go talk z l g p s) same.link same.dialled same.arrived (λ other. refl) (λ other ne. refl) refl (λ other. refl) refl (λ h. h) (λ h. ap option_to_list h) (λ c e. tt) u)
       (same.arrived ∙ none) (subst (λ (d : NodeEvent). GiveStops (GoesAsDefined a) talk t d n x v) (same_Some e (Lost name) told) s))
   heard name k l (Err Failed) e n w x v h u none ok grew told same s =
       subst (λ (h : Option (List ℕ)). Over v h n) same.held
       (give_stops (Lost name) n x v (ready_heard (GoesAsDefined a) talk a Is (log_steps a) t below ⊤ name k l (Err Failed) (Lost name) n w x n h tt refl same) tt refl
-      (plain_agrees a talk d0 a0 D x n t (Lost name) refl (agrees-same x (ends name l w) (with_event n (at t (Lost name))) same (lost_keeps name l w n (at t (Lost name)) refl h.named h.none h.up h.held.0.agrees)))
-      (hears_use a talk d0 a0 D t below name k l (Gave link_wait (Err Failed)) None w x n (came (at t (Lost name))) h.named h.is grew (λ z g p s. let_go talk z l g p s) same.link same.dialled same.arrived (λ other. refl) (λ other ne. refl) refl (λ other. refl) refl (λ h. h) (λ h. ap option_to_list h) (λ c e. tt) u)
+      (plain_agrees a talk d0 a0 D x n t (Lost name) refl (agrees-same x (ends name l w) (with_event n (at t (Lost name))) same
+      (lost_keeps name l w n (at t (Lost name)) refl h.named h.none h.up h.held.0.agrees)))
+      (hears_use a talk d0 a0 D t below name k l (Gave link_wait (Err Failed)) None w x n (came (at t (Lost name))) h.named h.is grew
+      (λ z g p s. let_go talk z l g p s) same.link same.dialled same.arrived (λ other. refl) (λ other ne. refl) refl (λ other. refl) refl (λ h. h) (λ h. ap option_to_list h) (λ c e. tt) u)
       (same.arrived ∙ none) (subst (λ (d : NodeEvent). GiveStops (GoesAsDefined a) talk t d n x v) (same_Some e (Lost name) told) s))
   heard name k l (Err NoMemory) e n w x v h u none ok grew told same s = absurd ok
 
@@ -279,7 +293,8 @@ module _ {L : Type 0} (a : Made) (talk : L → Option (List Said)) (d0 : Diallin
   each_stop (name ∷ links) n w v named f none (inl s) = hear_stops name n w v f (and_left (is_name name) (list_all is_name links) named) none s
   each_stop (name ∷ links) n w v named f none (inr (p, x, g, k)) =
       let q : Live p x × (x.due ≡ []) = hears_if a talk d0 a0 D t below name (is_open name w) n p w x f (and_left (is_name name) (list_all is_name links) named) none refl g in
-      onward v w x n p (hears-between a talk t name (is_open name w) n w p x g) (Events.hears_if a talk script t name (is_open name w) n w p x g) (each_stop links p x v (and_right (is_name name) (list_all is_name links) named) q.0 q.1 k)
+      onward v w x n p (hears-between a talk t name (is_open name w) n w p x g) (Events.hears_if a talk script t name (is_open name w) n w p x g)
+      (each_stop links p x v (and_right (is_name name) (list_all is_name links) named) q.0 q.1 k)
 
 -- ---- a turn, from each of its parts on
 
@@ -324,7 +339,8 @@ module _ {L : Type 0} (a : Made) (talk : L → Option (List Said)) (d0 : Diallin
       let q : LiveAt door p x × (x.due ≡ []) =
       lines_given a talk d0 a0 door t below passed lines
       (and_left (list_all asks lines) (list_all asks rest) (sym (ap (list_all asks) parts ∙ list_all-append asks lines rest) ∙ asked)) due n p w x f none g in
-      later a talk d0 a0 script door' v w x n p (lines-between a talk t lines n w p x g) (Events.lines_go a talk script t lines (in-left script whole lines rest parts within) n w p x g) (from_links listens p x v door door' q.0 q.1 k)
+      later a talk d0 a0 script door' v w x n p (lines-between a talk t lines n w p x g) (Events.lines_go a talk script t lines (in-left script whole lines rest parts within) n w p x g)
+      (from_links listens p x v door door' q.0 q.1 k)
 
   from_news : (passed : ℕ) (whole : List Due) (listens : Bool) (n : Log) (w v : World L) (door door' : Admitting L) → AreIn script whole → list_all asks whole ≡ true → LiveAt door n w
       → StopsFromNews (GoesAsDefined a) talk t passed whole listens (moment n w door) (in_hands v door') → OverAt door' v w.held n
@@ -332,7 +348,8 @@ module _ {L : Type 0} (a : Made) (talk : L → Option (List Said)) (d0 : Diallin
       subst (λ (D : Admitting L). OverAt D v w.held n) (sym same) (news_stop a talk d0 a0 door script t below news n w v f s)
   from_news passed whole listens n w v door door' within asked f (news, inr (p, x, g, k)) =
       let q : LiveAt door p x × (x.due ≡ []) = news_use a talk d0 a0 door t below news n p w x f g in
-      later a talk d0 a0 script door' v w x n p (news-between a talk t news n w p x g) (Events.news_go a talk script t news n w p x g) (from_lines passed whole listens p x v door door' within asked q.0 q.1 k)
+      later a talk d0 a0 script door' v w x n p (news-between a talk t news n w p x g) (Events.news_go a talk script t news n w p x g)
+      (from_lines passed whole listens p x v door door' within asked q.0 q.1 k)
 
   from_tick : (passed : ℕ) (whole : List Due) (listens : Bool) (n : Log) (w v : World L) (door door' : Admitting L) → AreIn script whole → list_all asks whole ≡ true → LiveAt door n w
       → StopsFromTick (GoesAsDefined a) talk t passed whole listens (moment n w door) (in_hands v door') → OverAt door' v w.held n
@@ -346,7 +363,8 @@ module _ {L : Type 0} (a : Made) (talk : L → Option (List Said)) (d0 : Diallin
       given_plainly a talk d0 a0 door t below n p w x Tick (ready_tick (GoesAsDefined a) talk a Is (log_steps a) t below ⊤ n w n f.0) refl
       (plain_agrees a talk d0 a0 door w n t Tick refl (event_keeps w n (at t Tick) (λ name. refl) f.0.0.agrees))
       (event_use a talk d0 a0 door w w n t Tick refl refl refl (λ name. refl) f.1) f.2 g in
-      later a talk d0 a0 script door' v w x n p (gives-between a talk t Tick n w p x g) (Events.gives a talk script t Tick n w p x tt g) (from_news passed whole listens p x v door door' within asked q k)
+      later a talk d0 a0 script door' v w x n p (gives-between a talk t Tick n w p x g) (Events.gives a talk script t Tick n w p x tt g)
+      (from_news passed whole listens p x v door door' within asked q k)
 
   -- A turn that stopped, where its start did, or went through.
   turn_stops : (start : Option ℕ) (whole : List Due) (listens : Bool) (n : Log) (w v : World L) (door door' : Admitting L)
@@ -375,7 +393,8 @@ module _ {L : Type 0} (a : Made) (talk : L → Option (List Said)) (d0 : Diallin
       let q : Fine a talk d0 a0 mid t fall.1 p x × (x.due ≡ []) =
       turn_uses a talk d0 a0 t fall.1 (Some first) whole rest listens n p w x door mid
       (λ o y z same b. later_turn a talk d0 a0 t fall.1 door first n o w y z (fine_later a talk d0 a0 listens door from t early fall.1 n w fall.0 f) none same b) asked g in
-      later a talk d0 a0 script door' v w x n p (turn-between a talk t (Some first) whole rest listens n w door p x mid g) (Events.turn a talk script t (Some first) whole rest within listens n w door p x mid g)
+      later a talk d0 a0 script door' v w x n p (turn-between a talk t (Some first) whole rest listens n w door p x mid g)
+      (Events.turn a talk script t (Some first) whole rest within listens n w door p x mid g)
       (later_stops first times t fall.1 rest fall.2 (in-right script whole g.lines rest g.parts within) (asked_rest whole g.lines rest g.parts asked) p x v mid door' q.0 q.1 k)
 
   -- What a run has in hand as it starts.
@@ -401,8 +420,10 @@ module _ {L : Type 0} (a : Made) (talk : L → Option (List Said)) (d0 : Diallin
   turns_stop (t ∷ times) fall asked text w v door door' from empty (going, inr (rest, p, x, mid, g, k)) =
       let q : Fine a talk d0 a0 mid t fall.1 p x × (x.due ≡ []) =
       turn_uses a talk d0 a0 t fall.1 None script rest listens [] p w x door mid
-      (λ o y z same b. first_turn a talk d0 a0 t fall.1 door [] o y z refl (at_first d0 text w empty y same) (at_start door text w y from empty same).0 (at_start door text w y from empty same).1 b) asked g in
-      later a talk d0 a0 script door' v w x [] p (turn-between a talk t None script rest listens [] w door p x mid g) (Events.turn a talk script t None script rest (in-all script) listens [] w door p x mid g)
+      (λ o y z same b. first_turn a talk d0 a0 t fall.1 door [] o y z refl (at_first d0 text w empty y same) (at_start door text w y from empty same).0
+      (at_start door text w y from empty same).1 b) asked g in
+      later a talk d0 a0 script door' v w x [] p (turn-between a talk t None script rest listens [] w door p x mid g)
+      (Events.turn a talk script t None script rest (in-all script) listens [] w door p x mid g)
       (later_stops t times t fall.1 rest fall.2 (in-right script script g.lines rest g.parts (in-all script)) (asked_rest script g.lines rest g.parts asked) p x v mid door' q.0 q.1 k)
 
 -- ---- the log
@@ -430,7 +451,8 @@ module _ {L : Type 0} (talk : L → Option (List Said)) (o p : Outside L) where
       w = record { link = λ name. None; arrived = None; over = []; due = []; waiting = []; finished = false; dialled = p.dialled; held = None }
 
 pub run_stopped : {L : Type 0} (a : Made) (talk : L → Option (List Said)) (listens : Bool) (turns : ℕ) (script : List Due) → list_all asks script ≡ true → (o p : Outside L)
-    → RunFails (GoesAsDefined a) talk listens turns script (run_moment [] o.dialled o.written o.door o.readings) (outside p.dialled p.written p.door p.readings) → (M : Log) × HasStopped talk a script o p M
+    → RunFails (GoesAsDefined a) talk listens turns script (run_moment [] o.dialled o.written o.door o.readings) (outside p.dialled p.written p.door p.readings) → (M : Log)
+    × HasStopped talk a script o p M
 run_stopped {L} a talk listens turns script asked o p (inl same) = (
   [],
   record {
@@ -461,5 +483,6 @@ stopped_runs_have_logs talk a terms o p asked r = run_stopped a talk terms.liste
 
 pub stopped_scripts_have_logs : {L W : Type 0} (talk : L → Option (List Said)) (drawn : NodeEvent → W → W → Type 0) → StoppedScriptsHaveLogs talk drawn
 stopped_scripts_have_logs {L} {W} talk drawn a text lines reads listens turns u o p r =
-    run_stopped a talk listens turns lines (asked_of text lines reads) o p (fails_map (GoesDrawing (GoesAsDefined a) drawn) (GoesAsDefined a) (λ (d : Drawing Log W). d.node) (log_alone drawn a) talk listens turns lines
+    run_stopped a talk listens turns lines (asked_of text lines reads) o p
+    (fails_map (GoesDrawing (GoesAsDefined a) drawn) (GoesAsDefined a) (λ (d : Drawing Log W). d.node) (log_alone drawn a) talk listens turns lines
     (at_rest [] u) o.dialled p.dialled o.written p.written o.door p.door o.readings p.readings r)

@@ -1,4 +1,5 @@
 -- What links that had told nothing when they came tell at last.
+-- It serves clauses of functions of `laws`.
 use Rattle.std.proofs.Common.{◌≡◌, ℕ, zero, suc, Bool, true, List, [], ◌∷◌, ◌++◌, Option, Some, None, refl, ap, sym, subst, ◌∙◌}
 use Rattle.std.specs.Prelude.{slice_get}
 use Rattle.std.specs.List.{list_all}
@@ -37,7 +38,8 @@ module _ {L : Type 0} (talk : L → Option (List Said)) where
   fresh_right (l ∷ xs) ys f = fresh_right xs ys f.1
 
   -- the link that came by a line by which one began
-  fresh_here : (m : Line) (l : L) (name : LinkName) (xs ys : List L) → begins name m ≡ true → AllFresh talk (link_by m (Some l) ++ xs) → AllFresh talk (arrived_by m (Some l) ++ ys) → ToldIs (talk l) []
+  fresh_here : (m : Line) (l : L) (name : LinkName) (xs ys : List L) → begins name m ≡ true → AllFresh talk (link_by m (Some l) ++ xs) → AllFresh talk (arrived_by m (Some l) ++ ys)
+      → ToldIs (talk l) []
   fresh_here (did (Dial other uri)) l name xs ys it f g = f.0
   fresh_here (did (Take other)) l name xs ys it f g = g.0
   fresh_here m l name xs ys it f g = cc

@@ -1,5 +1,7 @@
 -- What the links in a run's hands told, and the log of its node, line by line.
-use Rattle.std.proofs.Common.{◌≡◌, ◌⊎◌, inl, inr, ℕ, ◌+◌, Bool, true, false, cond, ◌||◌, List, [], ◌∷◌, ◌++◌, length, length-append, Option, Some, None, is_some, Ok, Err, refl, ap, sym, subst, ◌∙◌, ◌<◌, arith, append-nil, append_assoc}
+-- It serves clauses of functions of `laws`.
+use Rattle.std.proofs.Common.{◌≡◌, ◌⊎◌, inl, inr, ℕ, ◌+◌, Bool, true, false, cond, ◌||◌, List, [], ◌∷◌, ◌++◌, length, length-append, Option, Some, None, is_some, Ok, Err, refl, ap}
+use Rattle.std.proofs.Common.{sym, subst, ◌∙◌, ◌<◌, arith, append-nil, append_assoc}
 use Rattle.std.specs.Prelude.{filter_map, flat_map, option_to_list, slice_get}
 use Rattle.std.specs.List.{list_any}
 use Rattle.std.proofs.lemmas.Grind.{flat_map-append}
@@ -257,16 +259,19 @@ module _ {L : Type 0} (talk : L → Option (List Said)) (d : Dialling L) (first 
   Uses w M = (K : List (Option L)) × (length K ≡ length M) × HasDialled d w.dialled M K × HasArrived first door w.arrived M K × EachTaken M K × EachStands K w M
 
   pub step_each : (w v : World L) (M : Log) (m : Line) (c : Option L) (K : List (Option L)) → length K ≡ length M
-      → ((name : LinkName) (z : Option (Option L)) (g p : List (List ℕ)) → begins name m ≡ false → StandsSo talk z (w.link name) g p → StandsSo talk z (v.link name) (g ++ given_by name m) (p ++ put_by name m))
+      → ((name : LinkName) (z : Option (Option L)) (g p : List (List ℕ)) → begins name m ≡ false → StandsSo talk z (w.link name) g p
+      → StandsSo talk z (v.link name) (g ++ given_by name m) (p ++ put_by name m))
       → ((name : LinkName) → begins name m ≡ true → StandsSo talk (Some c) (v.link name) [] [])
       → EachStands K w M → EachStands (K ++ c ∷ []) v (M ++ m ∷ [])
   step_each w v M m c K long goes anew u x begun = by (got-more M m x.began begun.line begun.at)
     where
-      last : (z : Option (Option L)) (b : Bool) → begins x.name m ≡ b → list_any (begins x.name) (lines_since M x) ≡ false → StandsSo talk z (w.link x.name) (given_over M x) (put_over M x) → On talk z v x (lines_since M x ++ m ∷ [])
+      last : (z : Option (Option L)) (b : Bool) → begins x.name m ≡ b → list_any (begins x.name) (lines_since M x) ≡ false → StandsSo talk z (w.link x.name) (given_over M x) (put_over M x)
+          → On talk z v x (lines_since M x ++ m ∷ [])
       last z true here none s =
           like talk z true (list_any (begins x.name) (lines_since M x ++ m ∷ [])) (v.link x.name)
           (given_over M x) (flat_map (given_by x.name) (until_anew x.name (lines_since M x ++ m ∷ []))) (put_over M x) (flat_map (put_by x.name) (until_anew x.name (lines_since M x ++ m ∷ [])))
-          (any_more x.name (lines_since M x) m false true none here) (ap (flat_map (given_by x.name)) (none_more x.name (lines_since M x) m none here)) (ap (flat_map (put_by x.name)) (none_more x.name (lines_since M x) m none here))
+          (any_more x.name (lines_since M x) m false true none here) (ap (flat_map (given_by x.name)) (none_more x.name (lines_since M x) m none here))
+          (ap (flat_map (put_by x.name)) (none_more x.name (lines_since M x) m none here))
           (used talk z (w.link x.name) (given_over M x) (put_over M x) s)
       last z false here none s =
           like talk z false (list_any (begins x.name) (lines_since M x ++ m ∷ [])) (v.link x.name)
@@ -275,7 +280,8 @@ module _ {L : Type 0} (talk : L → Option (List Said)) (d : Dialling L) (first 
           (any_more x.name (lines_since M x) m false false none here) (one_more (given_by x.name) x.name (lines_since M x) m none here) (one_more (put_by x.name) x.name (lines_since M x) m none here)
           (goes x.name z (given_over M x) (put_over M x) here s)
 
-      old : (z : Option (Option L)) (b : Bool) → list_any (begins x.name) (lines_since M x) ≡ b → StandsBy talk z b (w.link x.name) (given_over M x) (put_over M x) → On talk z v x (lines_since M x ++ m ∷ [])
+      old : (z : Option (Option L)) (b : Bool) → list_any (begins x.name) (lines_since M x) ≡ b → StandsBy talk z b (w.link x.name) (given_over M x) (put_over M x)
+          → On talk z v x (lines_since M x ++ m ∷ [])
       old z true some s =
           like talk z true (list_any (begins x.name) (lines_since M x ++ m ∷ [])) (v.link x.name)
           (given_over M x) (flat_map (given_by x.name) (until_anew x.name (lines_since M x ++ m ∷ []))) (put_over M x) (flat_map (put_by x.name) (until_anew x.name (lines_since M x ++ m ∷ [])))
@@ -297,7 +303,8 @@ module _ {L : Type 0} (talk : L → Option (List Said)) (d : Dialling L) (first 
 
   -- One line more, by which this link came.
   pub step : (w v : World L) (M : Log) (m : Line) (c : Option L) → Calls m c w.dialled v.dialled → Admitted m c w.arrived v.arrived → IsTakenBy m c
-      → ((name : LinkName) (z : Option (Option L)) (g p : List (List ℕ)) → begins name m ≡ false → StandsSo talk z (w.link name) g p → StandsSo talk z (v.link name) (g ++ given_by name m) (p ++ put_by name m))
+      → ((name : LinkName) (z : Option (Option L)) (g p : List (List ℕ)) → begins name m ≡ false → StandsSo talk z (w.link name) g p
+      → StandsSo talk z (v.link name) (g ++ given_by name m) (p ++ put_by name m))
       → ((name : LinkName) → begins name m ≡ true → StandsSo talk (Some c) (v.link name) [] [])
       → Uses w M → Uses v (M ++ m ∷ [])
   step w v M m c calls admitted taken goes anew (K, long, dialled, arrived, t, u) = (
@@ -310,8 +317,16 @@ module _ {L : Type 0} (talk : L → Option (List Said)) (d : Dialling L) (first 
   )
 
   -- No line more.
-  pub stays : (w v : World L) (M : Log) → v.dialled ≡ w.dialled → v.arrived ≡ w.arrived → ((name : LinkName) (z : Option (Option L)) (g p : List (List ℕ)) → StandsSo talk z (w.link name) g p → StandsSo talk z (v.link name) g p) → Uses w M → Uses v M
-  stays w v M same door_same goes (K, long, dialled, arrived, t, u) = (K, long, subst (λ (e : Dialling L). HasDialled d e M K) (sym same) dialled, subst (λ (o : Option L). HasArrived first door o M K) (sym door_same) arrived, t, λ x begun. by x (slice_get K x.began) (list_any (begins x.name) (lines_since M x)) (u x begun))
+  pub stays : (w v : World L) (M : Log) → v.dialled ≡ w.dialled → v.arrived ≡ w.arrived
+      → ((name : LinkName) (z : Option (Option L)) (g p : List (List ℕ)) → StandsSo talk z (w.link name) g p → StandsSo talk z (v.link name) g p) → Uses w M → Uses v M
+  stays w v M same door_same goes (K, long, dialled, arrived, t, u) = (
+    K,
+    long,
+    subst (λ (e : Dialling L). HasDialled d e M K) (sym same) dialled,
+    subst (λ (o : Option L). HasArrived first door o M K) (sym door_same) arrived,
+    t,
+    λ x begun. by x (slice_get K x.began) (list_any (begins x.name) (lines_since M x)) (u x begun),
+  )
     where
       by : (x : LinkLife) (z : Option (Option L)) (b : Bool) → StandsBy talk z b (w.link x.name) (given_over M x) (put_over M x) → StandsBy talk z b (v.link x.name) (given_over M x) (put_over M x)
       by x z true s = s
@@ -321,7 +336,8 @@ module _ {L : Type 0} (talk : L → Option (List Said)) (d : Dialling L) (first 
   uses_alike w v M dials arr same = stays w v M dials arr (λ name z g p s. subst (λ (o : Option L). StandsSo talk z o g p) (sym (same name)) s)
 
   -- A line by which no link begins, nothing is given and nothing is put.
-  pub quiet : (w v : World L) (M : Log) (m : Line) (c : Option L) → Calls m c w.dialled v.dialled → Admitted m c w.arrived v.arrived → IsTakenBy m c → ((name : LinkName) → v.link name ≡ w.link name) → ((name : LinkName) → begins name m ≡ false)
+  pub quiet : (w v : World L) (M : Log) (m : Line) (c : Option L) → Calls m c w.dialled v.dialled → Admitted m c w.arrived v.arrived → IsTakenBy m c
+      → ((name : LinkName) → v.link name ≡ w.link name) → ((name : LinkName) → begins name m ≡ false)
       → ((name : LinkName) → given_by name m ≡ []) → ((name : LinkName) → put_by name m ≡ []) → Uses w M → Uses v (M ++ m ∷ [])
   quiet w v M m c calls admitted taken same none gave put =
       step w v M m c calls admitted taken
@@ -330,12 +346,14 @@ module _ {L : Type 0} (talk : L → Option (List Said)) (d : Dialling L) (first 
       (λ name b. no_true (StandsSo talk (Some c) (v.link name) [] []) (begins name m) (none name) b)
 
   -- A line that touches the link of one name alone.
-  pub touch : (name : LinkName) (w v : World L) (M : Log) (m : Line) (c : Option L) → Calls m c w.dialled v.dialled → Admitted m c w.arrived v.arrived → IsTakenBy m c → ((other : LinkName) → same_link name other ≡ false → v.link other ≡ w.link other)
+  pub touch : (name : LinkName) (w v : World L) (M : Log) (m : Line) (c : Option L) → Calls m c w.dialled v.dialled → Admitted m c w.arrived v.arrived → IsTakenBy m c
+      → ((other : LinkName) → same_link name other ≡ false → v.link other ≡ w.link other)
       → ((other : LinkName) → same_link name other ≡ false → begins other m ≡ false)
       → ((other : LinkName) → same_link name other ≡ false → given_by other m ≡ []) → ((other : LinkName) → same_link name other ≡ false → put_by other m ≡ [])
       → ((z : Option (Option L)) (g p : List (List ℕ)) → begins name m ≡ false → StandsSo talk z (w.link name) g p → StandsSo talk z (v.link name) (g ++ given_by name m) (p ++ put_by name m))
       → (begins name m ≡ true → StandsSo talk (Some c) (v.link name) [] []) → Uses w M → Uses v (M ++ m ∷ [])
-  touch name w v M m c calls admitted taken same none gave put goes anew = step w v M m c calls admitted taken (λ other z g p b s. old other z g p (same_link name other) refl b s) (λ other b. new other (same_link name other) refl b)
+  touch name w v M m c calls admitted taken same none gave put goes anew =
+      step w v M m c calls admitted taken (λ other z g p b s. old other z g p (same_link name other) refl b s) (λ other b. new other (same_link name other) refl b)
     where
       old : (other : LinkName) (z : Option (Option L)) (g p : List (List ℕ)) (i : Bool) → same_link name other ≡ i → begins other m ≡ false → StandsSo talk z (w.link other) g p
           → StandsSo talk z (v.link other) (g ++ given_by other m) (p ++ put_by other m)
@@ -353,7 +371,8 @@ module _ {L : Type 0} (talk : L → Option (List Said)) (d : Dialling L) (first 
 
   pub puts_uses : (name : LinkName) (o : List ℕ) (w v : World L) (M : Log) (k : Option L) → w.link name ≡ k → Puts talk name o k w v → Agrees w M → Uses w M → Uses v (M ++ did (Put name o) ∷ [])
   puts_uses name o w v M None e s A =
-      touch name w v M (did (Put name o)) None (uncalled w.dialled v.dialled s.dialled) (ap option_to_list s.arrived) tt (λ other ne. s.link other) (λ other ne. refl) (λ other ne. refl) (λ other ne. rw ne refl)
+      touch name w v M (did (Put name o)) None (uncalled w.dialled v.dialled s.dialled) (ap option_to_list s.arrived) tt (λ other ne. s.link other) (λ other ne. refl) (λ other ne. refl)
+      (λ other ne. rw ne refl)
       (λ z g p b h. so talk z None (v.link name) g (g ++ []) (p ++ put_by name (did (Put name o))) (p ++ put_by name (did (Put name o))) (sym (s.link name ∙ e)) (sym (append-nil g)) refl
       (more_put talk z g p (put_by name (did (Put name o))) (so talk z (w.link name) None g g p p e refl refl h)))
       (λ b. cc)
@@ -361,7 +380,8 @@ module _ {L : Type 0} (talk : L → Option (List Said)) (d : Dialling L) (first 
       let named : is_name name ≡ true = in_hand_named name l w M e A in
       let now : Some m ≡ v.link name = sym (s.link name ∙ link-here name (Some m) w named) in
       let it : o ∷ [] ≡ put_by name (did (Put name o)) = rw (same_link-self name) refl in
-      touch name w v M (did (Put name o)) None (uncalled w.dialled v.dialled s.dialled) (ap option_to_list s.arrived) tt (λ other ne. s.link other ∙ (apart-link name (Some m) w).link other ne) (λ other ne. refl) (λ other ne. refl) (λ other ne. rw ne refl)
+      touch name w v M (did (Put name o)) None (uncalled w.dialled v.dialled s.dialled) (ap option_to_list s.arrived) tt
+      (λ other ne. s.link other ∙ (apart-link name (Some m) w).link other ne) (λ other ne. refl) (λ other ne. refl) (λ other ne. rw ne refl)
       (λ z g p b h. so talk z (Some m) (v.link name) (g ++ []) (g ++ []) (p ++ o ∷ []) (p ++ put_by name (did (Put name o))) now refl (ap (λ (x : List (List ℕ)). p ++ x) it)
       (says talk z l m (SaidPut o None) g p grew (so talk z (w.link name) (Some l) g g p p e refl refl h)))
       (λ b. cc)
@@ -369,17 +389,21 @@ module _ {L : Type 0} (talk : L → Option (List Said)) (d : Dialling L) (first 
       let named : is_name name ≡ true = in_hand_named name l w M e A in
       let now : None ≡ v.link name = sym (s.link name ∙ link-here name None w named) in
       let it : o ∷ [] ≡ put_by name (did (Put name o)) = rw (same_link-self name) refl in
-      touch name w v M (did (Put name o)) None (uncalled w.dialled v.dialled s.dialled) (ap option_to_list s.arrived) tt (λ other ne. s.link other ∙ (apart-link name None w).link other ne) (λ other ne. refl) (λ other ne. refl) (λ other ne. rw ne refl)
+      touch name w v M (did (Put name o)) None (uncalled w.dialled v.dialled s.dialled) (ap option_to_list s.arrived) tt (λ other ne. s.link other ∙ (apart-link name None w).link other ne)
+      (λ other ne. refl) (λ other ne. refl) (λ other ne. rw ne refl)
       (λ z g p b h. so talk z None (v.link name) (g ++ []) (g ++ []) (p ++ o ∷ []) (p ++ put_by name (did (Put name o))) now refl (ap (λ (x : List (List ℕ)). p ++ x) it)
       (let_go talk z m (g ++ []) (p ++ o ∷ []) (says talk z l m (SaidPut o (Some Failed)) g p grew (so talk z (w.link name) (Some l) g g p p e refl refl h))))
       (λ b. cc)
 
-  pub closes_uses : (name : LinkName) (c : Closing) (w v : World L) (M : Log) (k : Option L) → w.link name ≡ k → Closes talk name c k w v → Agrees w M → Uses w M → Uses v (M ++ did (Close name c) ∷ [])
-  closes_uses name c w v M None e s A = quiet w v M (did (Close name c)) None (uncalled w.dialled v.dialled s.dialled) (ap option_to_list s.arrived) tt (λ other. s.link other) (λ other. refl) (λ other. refl) (λ other. refl)
+  pub closes_uses : (name : LinkName) (c : Closing) (w v : World L) (M : Log) (k : Option L) → w.link name ≡ k → Closes talk name c k w v → Agrees w M → Uses w M
+      → Uses v (M ++ did (Close name c) ∷ [])
+  closes_uses name c w v M None e s A = quiet w v M (did (Close name c)) None (uncalled w.dialled v.dialled s.dialled) (ap option_to_list s.arrived) tt (λ other. s.link other)
+      (λ other. refl) (λ other. refl) (λ other. refl)
   closes_uses name c w v M (Some l) e (m, grew, s) A =
       let named : is_name name ≡ true = in_hand_named name l w M e A in
       let now : None ≡ v.link name = sym (s.link name ∙ link-here name None (forgets name w) named) in
-      touch name w v M (did (Close name c)) None (uncalled w.dialled v.dialled s.dialled) (ap option_to_list s.arrived) tt (λ other ne. s.link other ∙ (apart-link name None (forgets name w)).link other ne) (λ other ne. refl) (λ other ne. refl) (λ other ne. refl)
+      touch name w v M (did (Close name c)) None (uncalled w.dialled v.dialled s.dialled) (ap option_to_list s.arrived) tt
+      (λ other ne. s.link other ∙ (apart-link name None (forgets name w)).link other ne) (λ other ne. refl) (λ other ne. refl) (λ other ne. refl)
       (λ z g p b h. so talk z None (v.link name) (g ++ []) (g ++ []) (p ++ []) (p ++ []) now refl refl
       (let_go talk z m (g ++ []) (p ++ []) (says talk z l m (SaidClosed c.code (reason_text c.reason)) g p grew (so talk z (w.link name) (Some l) g g p p e refl refl h))))
       (λ b. cc)
@@ -394,13 +418,15 @@ module _ {L : Type 0} (talk : L → Option (List Said)) (d : Dialling L) (first 
   dials_uses name uri w v M out named (Some l) grew came_so s A =
       let m : Line = did (Dial name uri) in
       let it : begins name m ≡ true = begins-dial name name uri ∙ same_link-self name in
-      touch name w v M m (Some l) (answered name uri (Some l) w.dialled v.dialled grew came_so) (ap option_to_list s.arrived) tt (λ other ne. s.link other ∙ (apart-link name (Some l) w).link other ne) (λ other ne. begins-dial other name uri ∙ ne) (λ other ne. refl) (λ other ne. refl)
+      touch name w v M m (Some l) (answered name uri (Some l) w.dialled v.dialled grew came_so) (ap option_to_list s.arrived) tt
+      (λ other ne. s.link other ∙ (apart-link name (Some l) w).link other ne) (λ other ne. begins-dial other name uri ∙ ne) (λ other ne. refl) (λ other ne. refl)
       (λ z g p b h. no_true (StandsSo talk z (v.link name) (g ++ []) (p ++ [])) (begins name m) b it)
       (λ b. so talk (Some (Some l)) (Some l) (v.link name) [] [] [] [] (sym (s.link name ∙ link-here name (Some l) w named)) refl refl (new_link l))
   dials_uses name uri w v M out named None grew came_so s A =
       let m : Line = did (Dial name uri) in
       let it : begins name m ≡ true = begins-dial name name uri ∙ same_link-self name in
-      touch name w v M m None (answered name uri None w.dialled v.dialled grew came_so) (ap option_to_list s.arrived) tt (λ other ne. s.link other) (λ other ne. begins-dial other name uri ∙ ne) (λ other ne. refl) (λ other ne. refl)
+      touch name w v M m None (answered name uri None w.dialled v.dialled grew came_so) (ap option_to_list s.arrived) tt (λ other ne. s.link other)
+      (λ other ne. begins-dial other name uri ∙ ne) (λ other ne. refl) (λ other ne. refl)
       (λ z g p b h. no_true (StandsSo talk z (v.link name) (g ++ []) (p ++ [])) (begins name m) b it)
       (λ b. so talk (Some None) None (v.link name) [] [] [] [] (sym (s.link name ∙ none_in_hand name w M out A)) refl refl (None, refl, refl))
 
@@ -413,7 +439,9 @@ module _ {L : Type 0} (talk : L → Option (List Said)) (d : Dialling L) (first 
 
       taken : Takes (Direct k) (Some l) w x → Uses w M → Uses x (M ++ did (Take (Direct k)) ∷ [])
       taken same =
-          touch (Direct k) w x M (did (Take (Direct k))) (Some l) (uncalled w.dialled x.dialled same.dialled) (ap (λ (o : Option L). l ∷ option_to_list o) same.arrived ∙ sym (ap option_to_list e)) refl (λ other ne. same.link other ∙ (apart-link (Direct k) (Some l) w).link other ne) (λ other ne. begins-take other (Direct k) ∙ ne) (λ other ne. refl) (λ other ne. refl)
+          touch (Direct k) w x M (did (Take (Direct k))) (Some l) (uncalled w.dialled x.dialled same.dialled)
+          (ap (λ (o : Option L). l ∷ option_to_list o) same.arrived ∙ sym (ap option_to_list e)) refl (λ other ne. same.link other ∙ (apart-link (Direct k) (Some l) w).link other ne)
+          (λ other ne. begins-take other (Direct k) ∙ ne) (λ other ne. refl) (λ other ne. refl)
           (λ z g p b h. no_true (StandsSo talk z (x.link (Direct k)) (g ++ []) (p ++ [])) (begins (Direct k) (did (Take (Direct k)))) b it)
           (λ b. so talk (Some (Some l)) (Some l) (x.link (Direct k)) [] [] [] [] (sym (same.link (Direct k) ∙ link-here (Direct k) (Some l) w (in_slots_named k slots))) refl refl (new_link l))
 
@@ -433,11 +461,14 @@ module _ {L : Type 0} (talk : L → Option (List Said)) (d : Dialling L) (first 
   pub does_uses : (action : Action) (w v : World L) (M : Log) → MayStand M (did action) → Does talk action w v → Agrees w M → Uses w M → Uses v (M ++ did action ∷ [])
   does_uses (Dial name uri) w v M may h A = dials_uses name uri w v M may.0 (dial_named name uri may.1) h.0 h.1 h.2 h.3 A
   does_uses (Take name) w v M may h A = absurd may
-  does_uses (Refuse c) w v M may h A = quiet w v M (did (Refuse c)) w.arrived (uncalled w.dialled v.dialled (refuses_dialled c w.arrived w v h)) (refuses_arrived c w.arrived w v refl h) tt (refuses_link c w.arrived w v h) (λ name. refl) (λ name. refl) (λ name. refl)
+  does_uses (Refuse c) w v M may h A = quiet w v M (did (Refuse c)) w.arrived (uncalled w.dialled v.dialled (refuses_dialled c w.arrived w v h)) (refuses_arrived c w.arrived w v refl h) tt
+      (refuses_link c w.arrived w v h) (λ name. refl) (λ name. refl) (λ name. refl)
   does_uses (Put name o) w v M may h A = puts_uses name o w v M (w.link name) refl h A
   does_uses (Close name c) w v M may h A = closes_uses name c w v M (w.link name) refl h A
-  does_uses (Deliver x) w v M may h A = quiet w v M (did (Deliver x)) None (uncalled w.dialled v.dialled h.1.dialled) (ap option_to_list h.1.arrived) tt h.1.link (λ name. refl) (λ name. refl) (λ name. refl)
-  does_uses (Tell note) w v M may h A = quiet w v M (did (Tell note)) None (uncalled w.dialled v.dialled h.1.dialled) (ap option_to_list h.1.arrived) tt h.1.link (λ name. refl) (λ name. refl) (λ name. refl)
+  does_uses (Deliver x) w v M may h A = quiet w v M (did (Deliver x)) None (uncalled w.dialled v.dialled h.1.dialled) (ap option_to_list h.1.arrived) tt h.1.link (λ name. refl)
+      (λ name. refl) (λ name. refl)
+  does_uses (Tell note) w v M may h A = quiet w v M (did (Tell note)) None (uncalled w.dialled v.dialled h.1.dialled) (ap option_to_list h.1.arrived) tt h.1.link (λ name. refl)
+      (λ name. refl) (λ name. refl)
   does_uses Draw w v M may h A = quiet w v M (did Draw) None (uncalled w.dialled v.dialled h.dialled) (ap option_to_list h.arrived) tt h.link (λ name. refl) (λ name. refl) (λ name. refl)
 
   -- ---- lines

@@ -1,4 +1,5 @@
 -- The links of a run, told event by event: each has the use that the log says.
+-- It serves clauses of functions of `laws`.
 use Rattle.std.proofs.Common.{◌≡◌, ◌≤◌, ◌<◌, inl, inr, ℕ, Bool, true, false, List, [], ◌∷◌, ◌++◌, Option, Some, None, Result, Ok, Err, refl, ap, sym, subst, ◌∙◌, arith, append-nil, append_assoc}
 use Rattle.std.specs.Prelude.{◌^◌, filter_map, IsTrue, option_to_list, slice_get, ⊤}
 use Rattle.std.specs.List.{list_all, list_any}
@@ -61,7 +62,8 @@ use Rattle.bsc_node_links.specs.Coming.{HasDialled, HasGiven, IsTakenBy, arrived
 use Rattle.bsc_node_links.specs.Lives.{LinkLife, given_by, given_over, lines_since, put_by, put_over}
 use Rattle.bsc_node_links.specs.Talks.{given_by as said_given, put_by as said_put}
 use Rattle.bsc_node_links.specs.Using.{LinksAreUsed, Outside, RunsUseLinks, ScriptRunsUseLinks}
-use Rattle.bsc_node_links.proofs.Using.{Admitted, Calls, HasArrived, IsGone, IsUncalled, StandsBy, StandsSo, Uses, carries_none, given_none, let_go, lines_use, none_came, one_came, quiet, redoor, refused_none, same_self, says, so, stays, taken_none, takes_uses, touch, uncalled, used, uses_alike}
+use Rattle.bsc_node_links.proofs.Using.{Admitted, Calls, HasArrived, IsGone, IsUncalled, StandsBy, StandsSo, Uses, carries_none, given_none, let_go, lines_use, none_came, one_came}
+use Rattle.bsc_node_links.proofs.Using.{quiet, redoor, refused_none, same_self, says, so, stays, taken_none, takes_uses, touch, uncalled, used, uses_alike}
 
 -- A log as its own node.
 abbrev pub Is : Log → Log → Type 0
@@ -133,10 +135,12 @@ module _ {L : Type 0} (a : Made) (talk : L → Option (List Said)) (d0 : Diallin
   -- An event by which nothing is given.
   pub event_use : (w v : World L) (M : Log) (t : ℕ) (e : NodeEvent) → brings_message e ≡ false → v.dialled ≡ w.dialled → v.arrived ≡ w.arrived → ((name : LinkName) → v.link name ≡ w.link name)
       → Uses talk d0 a0 D w M → Uses talk d0 a0 D v (with_event M (at t e))
-  event_use w v M t e none dials arr same = quiet talk d0 a0 D w v M (came (at t e)) None (uncalled w.dialled v.dialled dials) (ap option_to_list arr) tt same (λ name. refl) (no_message t e none) (λ name. refl)
+  event_use w v M t e none dials arr same = quiet talk d0 a0 D w v M (came (at t e)) None (uncalled w.dialled v.dialled dials) (ap option_to_list arr) tt same (λ name. refl)
+      (no_message t e none) (λ name. refl)
 
   pub opened_use : (w : World L) (M : Log) (e : NodeEvent) → Uses talk d0 a0 D w M → Uses talk d0 a0 D w (M ++ opens_at e M)
-  opened_use w M (Opened name) u = quiet talk d0 a0 D w w M (initiating name (MachineOpened (now_in M) (next_id M))) None (uncalled w.dialled w.dialled refl) refl tt (λ other. refl) (λ other. refl) (λ other. refl) (λ other. refl) u
+  opened_use w M (Opened name) u = quiet talk d0 a0 D w w M (initiating name (MachineOpened (now_in M) (next_id M))) None (uncalled w.dialled w.dialled refl) refl tt (λ other. refl)
+      (λ other. refl) (λ other. refl) (λ other. refl) u
   opened_use w M e u = subst (Uses talk d0 a0 D w) (sym (append-nil M)) u
 
   pub plain_agrees : (w : World L) (M : Log) (t : ℕ) (e : NodeEvent) → is_plain e ≡ true → Agrees w (with_event M (at t e)) → Agrees w (with_event M (at t e) ++ opens_at e (with_event M (at t e)))
@@ -153,7 +157,8 @@ module _ {L : Type 0} (a : Made) (talk : L → Option (List Said)) (d0 : Diallin
       (subst (λ actions. Carries talk actions w v) (ap (filter_map action_of) g.is ∙ opens_do_nothing e.event (with_event M e) g.lines) c) A (opened_use w (with_event M e) e.event u))
 
   -- from that
-  arrival_use : (M : Log) (t : ℕ) (l : L) (w v : World L) → w.arrived ≡ Some l → AdmitsIn a M (at t Arrived) → Agrees w (with_event M (at t Arrived)) → Uses talk d0 a0 D w (with_event M (at t Arrived))
+  arrival_use : (M : Log) (t : ℕ) (l : L) (w v : World L) → w.arrived ≡ Some l → AdmitsIn a M (at t Arrived) → Agrees w (with_event M (at t Arrived))
+      → Uses talk d0 a0 D w (with_event M (at t Arrived))
       → Carries talk (actions_at a M (at t Arrived)) w v → Uses talk d0 a0 D v (M ++ goes_on a (at t Arrived) M)
   arrival_use M t l w v here (inl (k, goes, gone, named)) A u c =
       let e : TimedEvent = at t Arrived in
@@ -166,7 +171,8 @@ module _ {L : Type 0} (a : Made) (talk : L → Option (List Said)) (d0 : Diallin
       (lines_use talk d0 a0 D (did (Refuse (closing 1008 TableFull)) ∷ []) w v (with_event M e) (tt, tt) (subst (λ actions. Carries talk actions w v) (ap (filter_map action_of) goes) c) A u)
 
 -- After that one that arrived is taken or refused, none has.
-arrival_none : {L : Type 0} (a : Made) (talk : L → Option (List Said)) (M : Log) (t : ℕ) (w v : World L) → AdmitsIn a M (at t Arrived) → Carries talk (actions_at a M (at t Arrived)) w v → v.arrived ≡ None
+arrival_none : {L : Type 0} (a : Made) (talk : L → Option (List Said)) (M : Log) (t : ℕ) (w v : World L) → AdmitsIn a M (at t Arrived) → Carries talk (actions_at a M (at t Arrived)) w v
+    → v.arrived ≡ None
 arrival_none a talk M t w v (inl (k, goes, gone, named)) c = taken_none talk k w v (subst (λ actions. Carries talk actions w v) (ap (filter_map action_of) goes) c)
 arrival_none a talk M t w v (inr goes) c = refused_none talk (closing 1008 TableFull) w v (subst (λ actions. Carries talk actions w v) (ap (filter_map action_of) goes) c)
 
@@ -227,7 +233,8 @@ module _ {L : Type 0} (a : Made) (talk : L → Option (List Said)) (d0 : Diallin
   -- Any but that a link arrives.
   pub given_plainly : (n m : Log) (w v : World L) (e : NodeEvent) → Ready a Is t ⊤ talk n w n e → is_arrival e ≡ false
       → Agrees w (with_event n (at t e) ++ opens_at e (with_event n (at t e))) → Uses talk d0 a0 D w (with_event n (at t e)) → w.arrived ≡ None → Gives (GoesAsDefined a) talk t e n w m v → Fine m v
-  given_plainly n m w v e r none A u gone g = event_given n m w v e r (λ x c. goes_use a talk d0 a0 D n (at t e) w x (brought_of a n t e none r.brings) A u c) (λ x c. carries_none talk (actions_at a n (at t e)) w x c gone) g
+  given_plainly n m w v e r none A u gone g = event_given n m w v e r (λ x c. goes_use a talk d0 a0 D n (at t e) w x (brought_of a n t e none r.brings) A u c)
+      (λ x c. carries_none talk (actions_at a n (at t e)) w x c gone) g
 
   -- ---- the parts of a turn
 
@@ -257,11 +264,14 @@ module _ {L : Type 0} (a : Made) (talk : L → Option (List Said)) (d0 : Diallin
 
   -- It is in hand as it was left by it.
   pub hears_use : (name : LinkName) (k l : L) (s : Said) (o : Option L) (w v : World L) (M : Log) (m : Line) → is_name name ≡ true → w.link name ≡ Some k
-      → Grows (talk k) (talk l) (s ∷ []) → ((z : Option (Option L)) (g p : List (List ℕ)) → StandsSo talk z (Some l) g p → StandsSo talk z o g p) → ((other : LinkName) → v.link other ≡ (with_link name o w).link other) → v.dialled ≡ w.dialled → v.arrived ≡ w.arrived
+      → Grows (talk k) (talk l) (s ∷ []) → ((z : Option (Option L)) (g p : List (List ℕ)) → StandsSo talk z (Some l) g p → StandsSo talk z o g p)
+      → ((other : LinkName) → v.link other ≡ (with_link name o w).link other) → v.dialled ≡ w.dialled → v.arrived ≡ w.arrived
       → ((other : LinkName) → begins other m ≡ false) → ((other : LinkName) → same_link name other ≡ false → given_by other m ≡ []) → given_by name m ≡ said_given s
-      → ((other : LinkName) → put_by other m ≡ []) → said_put s ≡ [] → (IsUncalled w.dialled v.dialled → Calls m None w.dialled v.dialled) → (v.arrived ≡ w.arrived → Admitted m None w.arrived v.arrived) → ((c : Option L) → c ≡ None → IsTakenBy m c) → Uses talk d0 a0 D w M → Uses talk d0 a0 D v (M ++ m ∷ [])
+      → ((other : LinkName) → put_by other m ≡ []) → said_put s ≡ [] → (IsUncalled w.dialled v.dialled → Calls m None w.dialled v.dialled)
+      → (v.arrived ≡ w.arrived → Admitted m None w.arrived v.arrived) → ((c : Option L) → c ≡ None → IsTakenBy m c) → Uses talk d0 a0 D w M → Uses talk d0 a0 D v (M ++ m ∷ [])
   hears_use name k l s o w v M m named is grew left same dials arr none apart gave put puts calls admitted taken =
-      touch talk d0 a0 D name w v M m None (calls (uncalled w.dialled v.dialled dials)) (admitted arr) (taken None refl) (λ other ne. same other ∙ (apart-link name o w).link other ne) (λ other ne. none other) apart (λ other ne. put other)
+      touch talk d0 a0 D name w v M m None (calls (uncalled w.dialled v.dialled dials)) (admitted arr) (taken None refl) (λ other ne. same other ∙ (apart-link name o w).link other ne)
+      (λ other ne. none other) apart (λ other ne. put other)
       (λ z g p b h. so talk z o (v.link name) (g ++ said_given s) (g ++ given_by name m) (p ++ said_put s) (p ++ put_by name m)
       (sym (same name ∙ link-here name o w named)) (ap (λ (x : List (List ℕ)). g ++ x) (sym gave)) (ap (λ (x : List (List ℕ)). p ++ x) (puts ∙ sym (put name)))
       (left z (g ++ said_given s) (p ++ said_put s) (says talk z k l s g p grew (so talk z (w.link name) (Some k) g g p p is refl refl h))))
@@ -280,21 +290,26 @@ module _ {L : Type 0} (a : Made) (talk : L → Option (List Said)) (d0 : Diallin
       by other z g p false ne h = so talk z (w.link other) (v.link other) g g p p (sym (same.link other ∙ (apart-link name (Some l) w).link other ne)) refl refl h
 
   -- Any event of what a link gave.
-  hears_of : (name : LinkName) (k l : L) (given : Result Incoming LinkFault) (n m : Log) (w v : World L) → Hearing (GoesAsDefined a) talk a Is (log_steps a) t below ⊤ name k n w n → Uses talk d0 a0 D w n → w.arrived ≡ None
+  hears_of : (name : LinkName) (k l : L) (given : Result Incoming LinkFault) (n m : Log) (w v : World L) → Hearing (GoesAsDefined a) talk a Is (log_steps a) t below ⊤ name k n w n
+      → Uses talk d0 a0 D w n → w.arrived ≡ None
       → Grows (talk k) (talk l) (Gave link_wait given ∷ []) → HearsOf (GoesAsDefined a) talk t name l given n w m v → Fine m v × (v.due ≡ [])
   hears_of name k l (Ok (Message o)) n m w v h u gone grew (x, same, g) =
       let e : TimedEvent = at t (Came name o) in
       let here : given_by name (came e) ≡ o ∷ [] = rw (same_link-self name) refl in (
         given_plainly n m x v (Came name o) (ready_heard (GoesAsDefined a) talk a Is (log_steps a) t below ⊤ name k l (Ok (Message o)) (Came name o) n w x n h tt refl same) refl
-            (plain_agrees a talk d0 a0 D x n t (Came name o) refl (event_keeps x n e (λ other. refl) (agrees-same x (with_link name (Some l) w) n same (hears_keeps name k l w n h.named h.is h.held.0.agrees))))
-            (hears_use name k l (Gave link_wait (Ok (Message o))) (Some l) w x n (came e) h.named h.is grew (λ z g p s. s) same.link same.dialled same.arrived (λ other. refl) (λ other ne. rw ne refl) here (λ other. refl) refl (λ h. h) (λ h. ap option_to_list h) (λ c e. tt) u) (same.arrived ∙ gone) g,
+            (plain_agrees a talk d0 a0 D x n t (Came name o) refl (event_keeps x n e (λ other. refl)
+            (agrees-same x (with_link name (Some l) w) n same (hears_keeps name k l w n h.named h.is h.held.0.agrees))))
+            (hears_use name k l (Gave link_wait (Ok (Message o))) (Some l) w x n (came e) h.named h.is grew (λ z g p s. s) same.link same.dialled same.arrived (λ other. refl)
+            (λ other ne. rw ne refl) here (λ other. refl) refl (λ h. h) (λ h. ap option_to_list h) (λ c e. tt) u) (same.arrived ∙ gone) g,
         Lifting.gives_due (GoesAsDefined a) talk t (Came name o) n m x v g (same.due ∙ h.none),
       )
   hears_of name k l (Ok Text) n m w v h u gone grew (x, same, g) =
       let e : TimedEvent = at t (CameText name) in (
         given_plainly n m x v (CameText name) (ready_heard (GoesAsDefined a) talk a Is (log_steps a) t below ⊤ name k l (Ok Text) (CameText name) n w x n h tt refl same) refl
-            (plain_agrees a talk d0 a0 D x n t (CameText name) refl (event_keeps x n e (λ other. refl) (agrees-same x (with_link name (Some l) w) n same (hears_keeps name k l w n h.named h.is h.held.0.agrees))))
-            (hears_use name k l (Gave link_wait (Ok Text)) (Some l) w x n (came e) h.named h.is grew (λ z g p s. s) same.link same.dialled same.arrived (λ other. refl) (λ other ne. refl) refl (λ other. refl) refl (λ h. h) (λ h. ap option_to_list h) (λ c e. tt) u) (same.arrived ∙ gone) g,
+            (plain_agrees a talk d0 a0 D x n t (CameText name) refl (event_keeps x n e (λ other. refl)
+            (agrees-same x (with_link name (Some l) w) n same (hears_keeps name k l w n h.named h.is h.held.0.agrees))))
+            (hears_use name k l (Gave link_wait (Ok Text)) (Some l) w x n (came e) h.named h.is grew (λ z g p s. s) same.link same.dialled same.arrived (λ other. refl)
+            (λ other ne. refl) refl (λ other. refl) refl (λ h. h) (λ h. ap option_to_list h) (λ c e. tt) u) (same.arrived ∙ gone) g,
         Lifting.gives_due (GoesAsDefined a) talk t (CameText name) n m x v g (same.due ∙ h.none),
       )
   hears_of name k l (Ok Quiet) n m w v h u gone grew (is, same) = (
@@ -318,14 +333,16 @@ module _ {L : Type 0} (a : Made) (talk : L → Option (List Said)) (d0 : Diallin
       let e : TimedEvent = at t (Lost name) in (
         given_plainly n m x v (Lost name) (ready_heard (GoesAsDefined a) talk a Is (log_steps a) t below ⊤ name k l (Ok Closed) (Lost name) n w x n h tt refl same) refl
             (plain_agrees a talk d0 a0 D x n t (Lost name) refl (agrees-same x (ends name l w) (with_event n e) same (lost_keeps name l w n e refl h.named h.none h.up h.held.0.agrees)))
-            (hears_use name k l (Gave link_wait (Ok Closed)) None w x n (came e) h.named h.is grew (λ z g p s. let_go talk z l g p s) same.link same.dialled same.arrived (λ other. refl) (λ other ne. refl) refl (λ other. refl) refl (λ h. h) (λ h. ap option_to_list h) (λ c e. tt) u) (same.arrived ∙ gone) g,
+            (hears_use name k l (Gave link_wait (Ok Closed)) None w x n (came e) h.named h.is grew (λ z g p s. let_go talk z l g p s) same.link same.dialled same.arrived (λ other. refl)
+            (λ other ne. refl) refl (λ other. refl) refl (λ h. h) (λ h. ap option_to_list h) (λ c e. tt) u) (same.arrived ∙ gone) g,
         Lifting.gives_due (GoesAsDefined a) talk t (Lost name) n m x v g (same.due ∙ h.none),
       )
   hears_of name k l (Err Failed) n m w v h u gone grew (x, same, g) =
       let e : TimedEvent = at t (Lost name) in (
         given_plainly n m x v (Lost name) (ready_heard (GoesAsDefined a) talk a Is (log_steps a) t below ⊤ name k l (Err Failed) (Lost name) n w x n h tt refl same) refl
             (plain_agrees a talk d0 a0 D x n t (Lost name) refl (agrees-same x (ends name l w) (with_event n e) same (lost_keeps name l w n e refl h.named h.none h.up h.held.0.agrees)))
-            (hears_use name k l (Gave link_wait (Err Failed)) None w x n (came e) h.named h.is grew (λ z g p s. let_go talk z l g p s) same.link same.dialled same.arrived (λ other. refl) (λ other ne. refl) refl (λ other. refl) refl (λ h. h) (λ h. ap option_to_list h) (λ c e. tt) u) (same.arrived ∙ gone) g,
+            (hears_use name k l (Gave link_wait (Err Failed)) None w x n (came e) h.named h.is grew (λ z g p s. let_go talk z l g p s) same.link same.dialled same.arrived (λ other. refl)
+            (λ other ne. refl) refl (λ other. refl) refl (λ h. h) (λ h. ap option_to_list h) (λ c e. tt) u) (same.arrived ∙ gone) g,
         Lifting.gives_due (GoesAsDefined a) talk t (Lost name) n m x v g (same.due ∙ h.none),
       )
   hears_of name k l (Err NoMemory) n m w v h u gone grew g = absurd g
@@ -351,8 +368,10 @@ module _ {L : Type 0} (a : Made) (talk : L → Option (List Said)) (d0 : Diallin
 
   pub admits_use : (listens : Bool) (n m : Log) (w v : World L) (door door' : Admitting L) → FineAt door n w → w.due ≡ []
       → Admits (GoesAsDefined a) talk t listens (moment n w door) (moment m v door') → FineAt door' m v × (v.due ≡ [])
-  admits_use false n m w v door door' f none (is, same, e) =
-      (fine_same a talk d0 a0 door' t below n m w v is same (f.0, redoor talk d0 a0 door door' w n (λ K h. subst (λ (x : Admitting L). HasArrived a0 x w.arrived n K) (sym e) h) f.1, f.2), same.due ∙ none)
+  admits_use false n m w v door door' f none (is, same, e) = (
+    fine_same a talk d0 a0 door' t below n m w v is same (f.0, redoor talk d0 a0 door door' w n (λ K h. subst (λ (x : Admitting L). HasArrived a0 x w.arrived n K) (sym e) h) f.1, f.2),
+    same.due ∙ none,
+  )
   admits_use true n m w v door door' f none (waits, inl (is, same, leaves)) =
       (fine_same a talk d0 a0 door' t below n m w v is same (f.0, redoor talk d0 a0 door door' w n (λ K h. none_came a0 door door' w.arrived n K leaves h) f.1, f.2), same.due ∙ none)
   admits_use true n m w v door door' f none (waits, inr (l, leaves, g)) =
@@ -498,5 +517,6 @@ log_alone drawn a n m t e actions g = g.0
 
 pub script_runs_use_links : {L W : Type 0} (talk : L → Option (List Said)) (drawn : NodeEvent → W → W → Type 0) → ScriptRunsUseLinks talk drawn
 script_runs_use_links {L} {W} talk drawn a text lines reads listens end turns u u' o p M run =
-    run_uses a talk listens end turns lines (asked_of text lines reads) o p M (run_map (GoesDrawing (GoesAsDefined a) drawn) (GoesAsDefined a) (λ (d : Drawing Log W). d.node) (log_alone drawn a) talk listens end turns lines
+    run_uses a talk listens end turns lines (asked_of text lines reads) o p M
+    (run_map (GoesDrawing (GoesAsDefined a) drawn) (GoesAsDefined a) (λ (d : Drawing Log W). d.node) (log_alone drawn a) talk listens end turns lines
     (at_rest [] u) (at_rest M u') o.dialled p.dialled o.written p.written o.door p.door o.readings p.readings run)

@@ -1,4 +1,5 @@
 -- The links of a node, written out: what links at its ends tell are uses that its log says, by computation.
+-- No clause needs it: worked examples.
 use Rattle.std.proofs.Common.{◌≡◌, ℕ, suc, Bool, true, false, if◌then◌else◌, List, [], ◌∷◌, ◌++◌, Option, Some, None, Ok, refl, replicate}
 use Rattle.std.specs.Prelude.{codes, length}
 use Rattle.bsc_octets.specs.Identities.{identity_of}

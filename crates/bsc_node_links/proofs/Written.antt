@@ -1,4 +1,5 @@
 -- What a run that a fault stopped has written: a first part of what the node of its log told and delivered.
+-- It serves the clauses of `stopped_runs_have_logs` and `stopped_scripts_have_logs`.
 use Rattle.std.proofs.Common.{◌≡◌, ◌≤◌, ℕ, zero, suc, ◌+◌, inl, inr, List, [], ◌∷◌, ◌++◌, length, length-append, take, Option, Some, None, refl, ap, sym, subst, ◌∙◌, arith, append-nil, append_assoc}
 use Rattle.std.specs.Prelude.{filter_map, map}
 use Rattle.std.specs.Io.KnownBytes.{Appends}

@@ -1,5 +1,7 @@
 -- What one action comes to, from what its steps did.
-use Rattle.std.proofs.Common.{◌≡◌, inl, inr, ℕ, ◌<◌, ◌≤◌, ◌==◌, zero, suc, Bool, true, false, ◌&&◌, if◌then◌else◌, List, [], ◌∷◌, length, Option, Some, None, Ok, Err, refl, ap, sym, ◌∙◌, subst, arith, slice_get, slice_set}
+-- It serves clauses of functions of `link_set` and `performing`.
+use Rattle.std.proofs.Common.{◌≡◌, inl, inr, ℕ, ◌<◌, ◌≤◌, ◌==◌, zero, suc, Bool, true, false, ◌&&◌, if◌then◌else◌, List, [], ◌∷◌, length, Option, Some, None, Ok, Err, refl, ap}
+use Rattle.std.proofs.Common.{sym, ◌∙◌, subst, arith, slice_get, slice_set}
 use Rattle.std.proofs.lemmas.Bool.{eqb-true, false≢true, lt-ltb}
 use Rattle.std.proofs.lemmas.Option.{slice_get-get_or, slice_get_past}
 use Rattle.std.proofs.lemmas.List.{get_or-set_same, length-set}
@@ -53,7 +55,8 @@ module _ {L : Type 0} where
       ∙ ap (λ m. if same_link m other && is_name m then x else link_among other p f xs) (sym n)
 
   -- A link in a slot was called where it stands.
-  pub slot_called : (name : LinkName) (k : ℕ) (p f : Option L) (xs ys : List (Option L)) → name ≡ Direct k → ys ≡ slice_set xs k (link_if (slice_get ys k)) → k < SLOTS → length xs ≡ SLOTS → (other : LinkName)
+  pub slot_called : (name : LinkName) (k : ℕ) (p f : Option L) (xs ys : List (Option L)) → name ≡ Direct k → ys ≡ slice_set xs k (link_if (slice_get ys k)) → k < SLOTS → length xs ≡ SLOTS
+      → (other : LinkName)
       → link_among other p f ys ≡ (if same_link name other && is_name name then link_among name p f ys else link_among other p f xs)
   slot_called name k p f xs ys n e h l other =
       slot_named name k p f xs ys (link_if (slice_get ys k)) n e h l other
@@ -83,7 +86,8 @@ module _ {L : Type 0} where
   takes_none name w x e s = subst (λ (o : Option L). Takes name o w x) e (taken_none w x e s)
 
   pub takes_some : (name : LinkName) (w x v : World L) (l : L) → Some l ≡ w.arrived → Same x (without_arrived w) → Same v (with_link name (Some l) x) → Takes name w.arrived w v
-  takes_some name w x v l e s t = subst (λ (o : Option L). Takes name o w v) e (same_then v (with_link name (Some l) x) (with_link name (Some l) (without_arrived w)) t (on_link x (without_arrived w) name (Some l) s))
+  takes_some name w x v l e s t = subst (λ (o : Option L). Takes name o w v) e
+      (same_then v (with_link name (Some l) x) (with_link name (Some l) (without_arrived w)) t (on_link x (without_arrived w) name (Some l) s))
 
 module _ {L : Type 0} (talk : L → Option (List Said)) where
   pub refuses_none : (c : Closing) (w x : World L) → None ≡ w.arrived → Same x (without_arrived w) → Refuses talk c w.arrived w x
@@ -91,7 +95,8 @@ module _ {L : Type 0} (talk : L → Option (List Said)) where
 
   pub refuses_some : (c : Closing) (w x v : World L) (l : L) → Some l ≡ w.arrived → Same x (without_arrived w)
       → (m : L) × IsClosed talk c l m × Same v (with_over m x) → Refuses talk c w.arrived w v
-  refuses_some c w x v l e s k = subst (λ (o : Option L). Refuses talk c o w v) e (k.0, k.1, same_then v (with_over k.0 x) (with_over k.0 (without_arrived w)) k.2 (on_over x (without_arrived w) k.0 s))
+  refuses_some c w x v l e s k = subst (λ (o : Option L). Refuses talk c o w v) e
+      (k.0, k.1, same_then v (with_over k.0 x) (with_over k.0 (without_arrived w)) k.2 (on_over x (without_arrived w) k.0 s))
 
   -- It was closed, and there was no memory to keep it.
   pub refuses_part : (c : Closing) (w x v : World L) (l : L) → Some l ≡ w.arrived → Same x (without_arrived w)

@@ -1,5 +1,7 @@
 -- What a script asks of a node is one of the events for which it may ask.
-use Rattle.std.proofs.Common.{◌≡◌, ℕ, ◌+◌, Bool, true, false, not, nat_lt, nat_eq, ◌&&◌, ◌||◌, if◌then◌else◌, List, [], ◌∷◌, length, map, option_map, codes, Option, Some, None, IfSome, Ok, Err, IfOk, refl, sym, ◌∙◌, true≢false, arith}
+-- It serves bsc_live_lines, bsc_node_command and bsc_node_links.
+use Rattle.std.proofs.Common.{◌≡◌, ℕ, ◌+◌, Bool, true, false, not, nat_lt, nat_eq, ◌&&◌, ◌||◌, if◌then◌else◌, List, [], ◌∷◌, length, map, option_map, codes, Option, Some, None}
+use Rattle.std.proofs.Common.{IfSome, Ok, Err, IfOk, refl, sym, ◌∙◌, true≢false, arith}
 use Rattle.std.specs.List.{list_all, cons_option}
 use Rattle.std.proofs.lemmas.Bool.{and_from, and_parts}
 use Rattle.std.proofs.lemmas.Bool.Decides.{nat_tests}
@@ -22,12 +24,12 @@ use Rattle.bsc_node_run.specs.Scripts.{Wish, wish_of, asked_from, first_bad, has
 -- ---- one line
 
 -- whether what a line asks, where it asks something, is one of the events for which a script may ask
-abbrev asks_well : Line → Bool
+abbrev pub asks_well : Line → Bool
 asks_well (Ask event) = is_asked event
 asks_well line = true
 
 -- the same of what is said, where it is a line
-abbrev AsksWell : Option Line → Type 0
+abbrev pub AsksWell : Option Line → Type 0
 AsksWell line = IfSome line (λ l. asks_well l ≡ true)
 
 -- one of two lines
@@ -91,7 +93,7 @@ words_well (w ∷ ws) =
     (either (same_octets w (codes "send")) _ _ (send_well ws) (other_well w ws)))
 
 -- What a line of the text asks is one of these events.
-line_well : (l : List ℕ) → AsksWell (line_of l)
+pub line_well : (l : List ℕ) → AsksWell (line_of l)
 unfolding line_of
 line_well l = words_well (words_of l)
 

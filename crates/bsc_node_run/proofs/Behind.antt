@@ -1,5 +1,7 @@
 -- What stands behind one line more, and behind one piece more.
-use Rattle.std.proofs.Common.{◌≡◌, ℕ, ◌+◌, ◌≤◌, Bool, true, false, not, nat_le, ◌&&◌, ◌||◌, if◌then◌else◌, List, [], ◌∷◌, ◌++◌, map, length, refl, ap, sym, ◌∙◌, append_assoc, append-nil, length-append, arith, Some, None, Result, Ok, Err, IfOk, OnOk}
+-- It serves clauses of functions of `reading`.
+use Rattle.std.proofs.Common.{◌≡◌, ℕ, ◌+◌, ◌≤◌, Bool, true, false, not, nat_le, ◌&&◌, ◌||◌, if◌then◌else◌, List, [], ◌∷◌, ◌++◌, map, length, refl, ap, sym, ◌∙◌, append_assoc}
+use Rattle.std.proofs.Common.{append-nil, length-append, arith, Some, None, Result, Ok, Err, IfOk, OnOk}
 use Rattle.std.specs.List.{concat, fold}
 use Rattle.std.proofs.lemmas.Bool.Decides.{nat_tests}
 use Rattle.std.proofs.lemmas.List.{map-append}
@@ -55,7 +57,8 @@ kept_nothing at ended asked lines k = record {
 may_at : (finish : Bool) (by ms : ℕ) → finish ≡ false → by ≤ ms → (not finish && nat_le by ms) ≡ true
 may_at finish by ms h le = rw h (grind (arith, nat_tests))
 
-pub follows_at : (at : ℕ) (ended : Bool) (asked : List Wish) (lines : List Line) (ms : ℕ) → LinesKept at ended asked lines → ended ≡ false → at ≤ ms → (may_follow lines (At ms) ≡ true) × LinesKept ms ended asked (lines ++ At ms ∷ [])
+pub follows_at : (at : ℕ) (ended : Bool) (asked : List Wish) (lines : List Line) (ms : ℕ) → LinesKept at ended asked lines → ended ≡ false → at ≤ ms → (may_follow lines (At ms) ≡ true)
+    × LinesKept ms ended asked (lines ++ At ms ∷ [])
 follows_at at ended asked lines ms k going le = (
   may_at (has_finish lines) (time_by lines) ms (sym k.finish ∙ going) (omega (arith, k.time)),
   record {
@@ -66,7 +69,8 @@ follows_at at ended asked lines ms k going le = (
 )
 
 -- what is asked
-pub follows_ask : (at : ℕ) (ended : Bool) (asked : List Wish) (lines : List Line) (event : NodeEvent) → LinesKept at ended asked lines → ended ≡ false → (may_follow lines (Ask event) ≡ true) × LinesKept at (is_finish (Ask event)) (asked ++ record { at = at; event = event } ∷ []) (lines ++ Ask event ∷ [])
+pub follows_ask : (at : ℕ) (ended : Bool) (asked : List Wish) (lines : List Line) (event : NodeEvent) → LinesKept at ended asked lines → ended ≡ false → (may_follow lines (Ask event) ≡ true)
+    × LinesKept at (is_finish (Ask event)) (asked ++ record { at = at; event = event } ∷ []) (lines ++ Ask event ∷ [])
 follows_ask at ended asked lines event k going =
     let none : has_finish lines ≡ false = sym k.finish ∙ going in (
       ap not none,
@@ -93,12 +97,14 @@ in_piece piece l h = rw h refl
 lines-more : (pieces : List (List ℕ)) (piece : List ℕ) (l : Line) → line_of (line_in piece) ≡ Some l → lines_in (pieces ++ piece ∷ []) ≡ lines_in pieces ++ l ∷ []
 lines-more pieces piece l h = filter_map-append (λ (p : List ℕ). line_of (line_in p)) pieces (piece ∷ []) ∙ ap (λ (x : List Line). lines_in pieces ++ x) (in_piece piece l h)
 
-pub fits_piece : (pieces : List (List ℕ)) (piece : List ℕ) (before : ℕ) (l : Line) → before ≡ length (concat pieces) → is_too_big before piece ≡ false → line_of (line_in piece) ≡ Some l → may_follow (lines_in pieces) l ≡ true → fits_behind pieces piece ≡ true
+pub fits_piece : (pieces : List (List ℕ)) (piece : List ℕ) (before : ℕ) (l : Line) → before ≡ length (concat pieces) → is_too_big before piece ≡ false → line_of (line_in piece) ≡ Some l
+    → may_follow (lines_in pieces) l ≡ true → fits_behind pieces piece ≡ true
 fits_piece pieces piece before l count small says may =
     let fits : is_too_big (length (concat pieces)) piece ≡ false = ap (λ (n : ℕ). is_too_big n piece) (sym count) ∙ small in
     rw (fits, says, may) refl
 
-pub kept_piece : (at : ℕ) (ended : Bool) (asked : List Wish) (pieces : List (List ℕ)) (piece : List ℕ) (l : Line) → line_of (line_in piece) ≡ Some l → LinesKept at ended asked (lines_in pieces ++ l ∷ []) → LinesKept at ended asked (lines_in (pieces ++ piece ∷ []))
+pub kept_piece : (at : ℕ) (ended : Bool) (asked : List Wish) (pieces : List (List ℕ)) (piece : List ℕ) (l : Line) → line_of (line_in piece) ≡ Some l
+    → LinesKept at ended asked (lines_in pieces ++ l ∷ []) → LinesKept at ended asked (lines_in (pieces ++ piece ∷ []))
 kept_piece at ended asked pieces piece l says k = rw (lines-more pieces piece l says) k
 
 -- ---- a script that was read so far
@@ -112,7 +118,8 @@ pub record ReadSoFar (octets left : List ℕ) (before line at : ℕ) (ended : Bo
   pub good : first_bad [] (pieces_of octets) ≡ first_bad done (pieces_of left)
   pub kept : LinesKept at ended asked (lines_in done)
 
-good-more : (done : List (List ℕ)) (piece : List ℕ) (pieces after : List (List ℕ)) → pieces ≡ piece ∷ after → fits_behind done piece ≡ true → first_bad done pieces ≡ first_bad (done ++ piece ∷ []) after
+good-more : (done : List (List ℕ)) (piece : List ℕ) (pieces after : List (List ℕ)) → pieces ≡ piece ∷ after → fits_behind done piece ≡ true
+    → first_bad done pieces ≡ first_bad (done ++ piece ∷ []) after
 good-more done piece pieces after cut fits = rw (cut, fits) refl
 
 -- one piece more, which may stand there
@@ -125,7 +132,8 @@ read_more octets left piece rest before line at at' ended ended' asked asked' r 
   done = r.done ++ piece ∷ [];
   parts = r.parts ∙ ap (λ (x : List (List ℕ)). r.done ++ x) cut ∙ sym (append_assoc r.done (piece ∷ []) (pieces_of rest));
   count = (
-      let all : length (concat (r.done ++ piece ∷ [])) ≡ length (concat r.done) + length (concat (piece ∷ [])) = ap length (concat-append r.done (piece ∷ [])) ∙ length-append (concat r.done) (concat (piece ∷ [])) in
+      let all : length (concat (r.done ++ piece ∷ [])) ≡ length (concat r.done) + length (concat (piece ∷ [])) = ap length (concat-append r.done (piece ∷ []))
+      ∙ length-append (concat r.done) (concat (piece ∷ [])) in
       let one : length (concat (piece ∷ [])) ≡ length piece = ap length (append-nil piece) in
       omega (arith, r.count, all, one)
       );
@@ -148,20 +156,24 @@ pub read_bad : (octets left piece rest : List ℕ) (before line at : ℕ) (ended
 read_bad octets left piece rest before line at ended asked r cut bad =
     meant-bad octets line (r.good ∙ bad-now r.done piece (pieces_of left) (pieces_of rest) cut bad ∙ ap Some (sym r.number))
 
-meant-good : (octets : List ℕ) (pieces : List (List ℕ)) → pieces_of octets ≡ pieces → first_bad [] (pieces_of octets) ≡ None → script_of octets ≡ (if has_finish (lines_in pieces) then Ok (asked_from 0 (lines_in pieces)) else Err (length pieces + 1))
+meant-good : (octets : List ℕ) (pieces : List (List ℕ)) → pieces_of octets ≡ pieces → first_bad [] (pieces_of octets) ≡ None
+    → script_of octets ≡ (if has_finish (lines_in pieces) then Ok (asked_from 0 (lines_in pieces)) else Err (length pieces + 1))
 unfolding script_of
 meant-good octets pieces all good = rw (good, all) refl
 
 -- at the end of a script
-ends-good : (octets : List ℕ) (before line at : ℕ) (ended : Bool) (asked : List Wish) → (r : ReadSoFar octets [] before line at ended asked) → script_of octets ≡ (if has_finish (lines_in r.done) then Ok (asked_from 0 (lines_in r.done)) else Err (length r.done + 1))
+ends-good : (octets : List ℕ) (before line at : ℕ) (ended : Bool) (asked : List Wish) → (r : ReadSoFar octets [] before line at ended asked)
+    → script_of octets ≡ (if has_finish (lines_in r.done) then Ok (asked_from 0 (lines_in r.done)) else Err (length r.done + 1))
 ends-good octets before line at ended asked r = meant-good octets r.done (r.parts ∙ append-nil r.done) r.good
 
-pub read_all : (octets left : List ℕ) (before line at : ℕ) (ended : Bool) (asked : List Wish) → ReadSoFar octets left before line at ended asked → left ≡ [] → ended ≡ true → script_of octets ≡ Ok asked
+pub read_all : (octets left : List ℕ) (before line at : ℕ) (ended : Bool) (asked : List Wish) → ReadSoFar octets left before line at ended asked → left ≡ [] → ended ≡ true
+    → script_of octets ≡ Ok asked
 read_all octets left before line at ended asked r none over =
     let s : ReadSoFar octets [] before line at ended asked = rw none at r in
     ends-good octets before line at ended asked s ∙ rw (sym s.kept.finish ∙ over) (ap Ok (sym s.kept.all))
 
-pub read_unended : (octets left : List ℕ) (before line at : ℕ) (ended : Bool) (asked : List Wish) → ReadSoFar octets left before line at ended asked → left ≡ [] → ended ≡ false → script_of octets ≡ Err line
+pub read_unended : (octets left : List ℕ) (before line at : ℕ) (ended : Bool) (asked : List Wish) → ReadSoFar octets left before line at ended asked → left ≡ [] → ended ≡ false
+    → script_of octets ≡ Err line
 read_unended octets left before line at ended asked r none going =
     let s : ReadSoFar octets [] before line at ended asked = rw none at r in
     ends-good octets before line at ended asked s ∙ rw (sym s.kept.finish ∙ going) (ap Err (sym s.number))

@@ -1,4 +1,5 @@
 -- Nothing that a node does makes more news due in the same turn.
+-- It serves the clauses of `give_news`.
 use Rattle.std.proofs.Common.{◌≡◌, ◌≤◌, ◌+◌, inl, inr, ℕ, Bool, true, false, not, List, [], ◌∷◌, length, Option, Some, None, ap, arith}
 use Rattle.bsc_edge.specs.declared.said.Said.{Said}
 use Rattle.bsc_accept.specs.declared.closing.Closing.{Closing}

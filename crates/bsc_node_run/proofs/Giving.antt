@@ -1,4 +1,5 @@
 -- What a node is told, from what its steps did.
+-- It serves the clauses of `dispatch`.
 use Rattle.std.proofs.Common.{◌≡◌, ℕ, Bool, List, Option, refl, subst}
 use Rattle.bsc_edge.specs.declared.said.Said.{Said}
 use Rattle.bsc_node.specs.declared.action.Action.{Action}
@@ -13,5 +14,11 @@ module _ {N W L : Type 0} (goes : N → ℕ → NodeEvent → List Action → N 
   pub gives_at_rest : (e : NodeEvent) (n p : N) (words : W) (m : Drawing N W) (w x v : World L) (actions : List Action) (b : Bool) → b ≡ draws actions
       → goes n now e actions p → Carries talk actions w x → GivesWord (GoesDrawing goes (Draws gives faults)) talk now b (record { node = p; words = words; awaits = b }) x m v
       → Gives (GoesDrawing goes (Draws gives faults)) talk now e (at_rest n words) w m v
-  gives_at_rest e n p words m w x v actions b is g k a =
-      (actions, record { node = p; words = words; awaits = b }, x, (g, refl, is), k, subst (λ (c : Bool). GivesWord (GoesDrawing goes (Draws gives faults)) talk now c (record { node = p; words = words; awaits = b }) x m v) is a)
+  gives_at_rest e n p words m w x v actions b is g k a = (
+    actions,
+    record { node = p; words = words; awaits = b },
+    x,
+    (g, refl, is),
+    k,
+    subst (λ (c : Bool). GivesWord (GoesDrawing goes (Draws gives faults)) talk now c (record { node = p; words = words; awaits = b }) x m v) is a,
+  )

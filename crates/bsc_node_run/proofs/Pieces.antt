@@ -1,4 +1,5 @@
 -- The first piece of a text.
+-- It serves the clauses of `first_piece`.
 use Rattle.std.proofs.Common.{◌≡◌, ◌≢◌, ℕ, ◌+◌, ◌≤◌, ◌<◌, true, List, [], ◌∷◌, ◌++◌, length, take, drop, get_or, sym, ap, ◌∙◌, arith}
 use Rattle.std.proofs.lemmas.List.{take_all, take-append-drop}
 use Rattle.bsc_text.specs.Lines.{pieces_of, has_no_lf}

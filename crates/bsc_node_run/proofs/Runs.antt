@@ -1,4 +1,5 @@
 -- Whole runs, from their turns.
+-- It serves the clauses of `run_core`.
 use Rattle.std.proofs.Common.{◌≡◌, ◌≤◌, ◌<◌, ◌^◌, ℕ, ◌+◌, Bool, false, List, [], ◌∷◌, ◌++◌, length, Option, Some, refl, ap, sym, ◌∙◌, subst, append_assoc, append-nil, arith, unwrap_or}
 use Rattle.std.proofs.lemmas.List.{length-append}
 use Rattle.bsc_edge.specs.declared.said.Said.{Said}
@@ -42,7 +43,8 @@ module _ {N L : Type 0} (goes : N → ℕ → NodeEvent → List Action → N �
   -- One turn more behind those that were made.
   pub turns_more : (first : Option ℕ) (script : List Due) (n : N) (w : World L) (door : Admitting L) (times : List ℕ) (now : ℕ) (start : Option ℕ) (rest rest' : List Due) (p q : N) (x y : World L)
       (mid mid' : Admitting L)
-      → ((more : List ℕ) (m : N) (v : World L) (last : Admitting L) → Turns goes talk listens more start rest (moment p x mid) (moment m v last) → Turns goes talk listens (times ++ more) first script (moment n w door) (moment m v last))
+      → ((more : List ℕ) (m : N) (v : World L) (last : Admitting L) → Turns goes talk listens more start rest (moment p x mid) (moment m v last)
+      → Turns goes talk listens (times ++ more) first script (moment n w door) (moment m v last))
       → x.finished ≡ false → Turn goes talk now start rest rest' listens (moment p x mid) (moment q y mid')
       → (more : List ℕ) (m : N) (v : World L) (last : Admitting L) → Turns goes talk listens more (Some (unwrap_or start now)) rest' (moment q y mid') (moment m v last)
       → Turns goes talk listens ((times ++ now ∷ []) ++ more) first script (moment n w door) (moment m v last)
@@ -52,7 +54,8 @@ module _ {N L : Type 0} (goes : N → ℕ → NodeEvent → List Action → N �
 
   -- The turns that were made, and no more.
   pub turns_all : (first : Option ℕ) (script : List Due) (n : N) (w : World L) (door : Admitting L) (times : List ℕ) (start : Option ℕ) (rest : List Due) (p : N) (x : World L) (mid : Admitting L)
-      → ((more : List ℕ) (m : N) (v : World L) (last : Admitting L) → Turns goes talk listens more start rest (moment p x mid) (moment m v last) → Turns goes talk listens (times ++ more) first script (moment n w door) (moment m v last))
+      → ((more : List ℕ) (m : N) (v : World L) (last : Admitting L) → Turns goes talk listens more start rest (moment p x mid) (moment m v last)
+      → Turns goes talk listens (times ++ more) first script (moment n w door) (moment m v last))
       → Turns goes talk listens times first script (moment n w door) (moment p x mid)
   turns_all first script n w door times start rest p x mid made =
       subst (λ ts. Turns goes talk listens ts first script (moment n w door) (moment p x mid)) (append-nil times) (made [] p x mid (refl, same x, refl))

@@ -1,4 +1,5 @@
 -- The slots of a new set of links.
+-- It serves the clauses of `make`.
 use Rattle.std.proofs.Common.{◌≡◌, ℕ, zero, suc, List, [], ◌∷◌, ◌++◌, take, Option, Some, None, refl, ap, ◌∙◌, slice_get}
 use Rattle.std.specs.List.{AppendsResults, FoldsTo}
 use Rattle.bsc_connector.specs.declared.side.Side.TheVariants.{Primary, Failover}

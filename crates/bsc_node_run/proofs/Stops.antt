@@ -1,4 +1,5 @@
 -- Runs that a fault stops, from what their steps did.
+-- It serves clauses of functions of `performing`, `running`, `telling` and `turning`.
 use Rattle.std.proofs.Common.{◌≡◌, ◌≤◌, ◌<◌, ◌^◌, inl, inr, ℕ, suc, ◌+◌, Bool, true, false, List, [], ◌∷◌, ◌++◌, Option, Some, Result, Ok, Err, OnErr, refl, sym, subst, append_assoc, unwrap_or}
 use Rattle.std.specs.Prelude.{IsTrue}
 use Rattle.bsc_edge.specs.declared.said.Said.{Said}
@@ -60,7 +61,8 @@ module _ {N L : Type 0} (goes : N → ℕ → NodeEvent → List Action → N �
   -- One turn more behind those that were made.
   pub stops_more : (first : Option ℕ) (script : List Due) (n : N) (w : World L) (door : Admitting L) (times : List ℕ) (now : ℕ) (start : Option ℕ) (rest rest' : List Due) (p q : N) (x y : World L)
       (mid mid' : Admitting L)
-      → ((more : List ℕ) (v : World L) (last : Admitting L) → TurnsStop goes talk listens more start rest (moment p x mid) (in_hands v last) → TurnsStop goes talk listens (times ++ more) first script (moment n w door) (in_hands v last))
+      → ((more : List ℕ) (v : World L) (last : Admitting L) → TurnsStop goes talk listens more start rest (moment p x mid) (in_hands v last)
+      → TurnsStop goes talk listens (times ++ more) first script (moment n w door) (in_hands v last))
       → x.finished ≡ false → Turn goes talk now start rest rest' listens (moment p x mid) (moment q y mid')
       → (more : List ℕ) (v : World L) (last : Admitting L) → TurnsStop goes talk listens more (Some (unwrap_or start now)) rest' (moment q y mid') (in_hands v last)
       → TurnsStop goes talk listens ((times ++ now ∷ []) ++ more) first script (moment n w door) (in_hands v last)
@@ -69,9 +71,12 @@ module _ {N L : Type 0} (goes : N → ℕ → NodeEvent → List Action → N �
       (made (now ∷ more) v last (going, inr (rest', q, y, mid', t, k)))
 
   -- The turn that stopped.
-  pub stops_now : (first : Option ℕ) (script : List Due) (n : N) (w : World L) (door : Admitting L) (times : List ℕ) (now : ℕ) (start : Option ℕ) (rest : List Due) (p : N) (x v : World L) (mid last : Admitting L)
-      → ((more : List ℕ) (v : World L) (last : Admitting L) → TurnsStop goes talk listens more start rest (moment p x mid) (in_hands v last) → TurnsStop goes talk listens (times ++ more) first script (moment n w door) (in_hands v last))
-      → x.finished ≡ false → TurnStops goes talk now start rest listens (moment p x mid) (in_hands v last) → TurnsStop goes talk listens (times ++ now ∷ []) first script (moment n w door) (in_hands v last)
+  pub stops_now : (first : Option ℕ) (script : List Due) (n : N) (w : World L) (door : Admitting L) (times : List ℕ) (now : ℕ) (start : Option ℕ) (rest : List Due) (p : N) (x v : World L)
+      (mid last : Admitting L)
+      → ((more : List ℕ) (v : World L) (last : Admitting L) → TurnsStop goes talk listens more start rest (moment p x mid) (in_hands v last)
+      → TurnsStop goes talk listens (times ++ more) first script (moment n w door) (in_hands v last))
+      → x.finished ≡ false → TurnStops goes talk now start rest listens (moment p x mid) (in_hands v last)
+      → TurnsStop goes talk listens (times ++ now ∷ []) first script (moment n w door) (in_hands v last)
   stops_now first script n w door times now start rest p x v mid last made going t = made (now ∷ []) v last (going, inl (refl, t))
 
 -- The readings up to the one of that turn don't fall.

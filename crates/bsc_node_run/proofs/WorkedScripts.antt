@@ -1,4 +1,5 @@
 -- Scripts of a node that are written out, and what they mean.
+-- No clause needs it: worked examples.
 use Rattle.std.specs.Prelude.{◌≡◌, [], ◌∷◌, codes, Ok, Err, refl}
 use Rattle.hex.specs.Hex.{decode_pairs}
 use Rattle.bsc_node.specs.declared.node_event.NodeEvent.TheVariants.{Send, Resolve, Finish}
@@ -38,7 +39,8 @@ unfolding script_of line_of
 no_octets = refl
 
 -- The broadcast is one whom an NPDU is sent to, and no one who is asked; an NPDU has an octet.
-to_all : script_of (codes "send FFFFFFFFFFFF 01\nfinish") ≡ Ok (record { at = 0; event = Send (record { 0 = 255 ∷ 255 ∷ 255 ∷ 255 ∷ 255 ∷ 255 ∷ [] }) (1 ∷ []) } ∷ record { at = 0; event = Finish } ∷ [])
+to_all : script_of (codes "send FFFFFFFFFFFF 01\nfinish") ≡ Ok (record { at = 0; event = Send (record { 0 = 255 ∷ 255 ∷ 255 ∷ 255 ∷ 255 ∷ 255 ∷ [] }) (1 ∷ []) }
+    ∷ record { at = 0; event = Finish } ∷ [])
 unfolding script_of line_of decode_pairs
 to_all = refl
 

@@ -1,4 +1,5 @@
 -- Worlds that have the same, and how they change.
+-- It serves clauses of most source files here.
 use Rattle.std.proofs.Common.{◌≡◌, Bool, true, false, ◌&&◌, if◌then◌else◌, List, [], ◌∷◌, ◌++◌, Option, None, refl, ap, sym, ◌∙◌}
 use Rattle.bsc_node.specs.declared.link_name.LinkName.{LinkName}
 use Rattle.bsc_node.specs.Links.{same_link}
@@ -63,7 +64,8 @@ module _ {L : Type 0} where
   }
 
   -- A link comes, and something is new of it.
-  pub link_news : (a b c : World L) (name : LinkName) (l : Option L) (change : Change) → Same b (with_link name l a) → Same c (with_news name change b) → Same c (with_news name change (with_link name l a))
+  pub link_news : (a b c : World L) (name : LinkName) (l : Option L) (change : Change) → Same b (with_link name l a) → Same c (with_news name change b)
+      → Same c (with_news name change (with_link name l a))
   link_news a b c name l change s t = same_then c (with_news name change b) (with_news name change (with_link name l a)) t (on_news b (with_link name l a) name change s)
 
   -- A link is another one, and then one more.

@@ -1,4 +1,4 @@
--- What a reader of a script keeps of the lines that it has read: no public clause cites it.
+-- What a reader of a script keeps of the lines that it has read.
 use Rattle.std.specs.Prelude.{◌≡◌, ℕ, Bool, true, List}
 use Rattle.bsc_node_run.specs.declared.line.Line.{Line}
 use Rattle.bsc_node_run.specs.declared.line.Line.TheVariants.{Ask}

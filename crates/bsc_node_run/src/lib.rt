@@ -4,7 +4,6 @@
 //! node does. `link_set` has the links of a node, and what is new of them; `calling` receives and puts on them where they stand.
 #![tactic(auto)]
 
-mod at;
 mod bounds;
 mod calling;
 mod due;
@@ -27,6 +26,7 @@ mod script;
 mod scripting;
 mod telling;
 mod texts;
+mod turn_context;
 mod turn_end;
 mod turn_start;
 mod turning;
@@ -36,6 +36,7 @@ pub use bounds::{ACCEPT_WAIT_MS, LINK_WAIT_MS, LONGEST_REST_MS};
 pub use due::Due;
 pub use halt::Halt;
 pub use laws::{rests_50_ms_at_most, waits_for_nothing_in_a_turn};
+pub use line::{Line, LineFault};
 pub use link_set::LinkSet;
 pub use mem_words::MemWords;
 pub use news::{Change, News};
@@ -46,6 +47,7 @@ pub use reading::read_script;
 pub use run_end::RunEnd;
 pub use run_terms::RunTerms;
 pub use running::run_core;
+pub use saying::read_line;
 pub use script::{Script, ScriptFault};
 pub use turn_end::TurnEnd;
 pub use turn_start::TurnStart;

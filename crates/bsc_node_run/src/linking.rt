@@ -1,6 +1,6 @@
 //! The links of a node by their names.
 ghost use Rattle.std.specs.Prelude.{◌≡◌, not, [], ◌∷◌, ◌++◌, true, false, None, Some, Option, is_some, ◌&&◌, OnErr, OnOk, IfOk};
-ghost use Rattle.std.specs.Prelude.{List, ℕ, ◌<◌, vec_len, slice_get, slice_set};
+ghost use Rattle.std.specs.Prelude.{List, ℕ, ◌<◌, ◌==◌, length, vec_len, slice_get, slice_set};
 ghost use Rattle.std.specs.List.{list_any};
 ghost use Rattle.bsc_node.specs.declared.link_name.LinkName.{LinkName as LinkNameType};
 ghost use Rattle.bsc_node.specs.Links.{same_link};
@@ -76,6 +76,20 @@ impl<L: Drop> LinkSet<L> {
             waiting: VecDeque::new(alloc),
             finished: false,
         })
+    }
+
+    /// Whether the node told that it has ended.
+    pub fn has_finished(&self) -> bool
+        ensures { result ≡ self.now.finished }
+    {
+        self.finished
+    }
+
+    /// Whether something new of a link is left to be told to the node.
+    pub fn has_news(&self) -> bool
+        ensures { result ≡ not (length self.now.waiting.items == 0) }
+    {
+        !self.waiting.is_empty()
     }
 
     /// Puts a link in the place of a name, and gives the one that was there.

@@ -125,7 +125,7 @@ fn read_other(word: &[u8], words: &[u8]) -> Option<Line>
 
 /// What a line says, or that it has no form of a line.
 #[tactic(auto, unfolding(crate::specs::Saying::line_of))]
-pub(crate) fn read_line(alloc: Global, line: &[u8]) -> Result<Line, LineFault>
+pub fn read_line(alloc: Global, line: &[u8]) -> Result<Line, LineFault>
     ensures read { IfOk result (λ l. line_of line.now ≡ Some l) }
     ensures octets { IfOk result (λ l. asks_octets l ≡ true) }
     ensures refused { result ≡ Err LineFault.Refused → line_of line.now ≡ None }

@@ -11,11 +11,11 @@ ghost use Rattle.bsc_node_run.specs.Stopping.{GiveStops, StopsAt};
 ghost use Rattle.bsc_node_run.specs.Worlds.{dialling, world_of};
 ghost use Rattle.bsc_node_run.specs.Requests.{has_octets};
 
-use crate::at::At;
 use crate::halt::Halt;
 use crate::link_set::LinkSet;
 use crate::node_core::Core;
 use crate::performing::perform;
+use crate::turn_context::TurnContext;
 use crate::words::Words;
 use bsc_edge::{Dialer, Link};
 use bsc_node::{Action, NodeEvent};
@@ -58,7 +58,7 @@ fn draw<W: Words>(random: &mut W) -> NodeEvent
 
 /// Tells a node what came, and carries out what it does, but for a random word that it draws.
 fn tell<N: Core, K: Sink, L: Link + Drop, D: Dialer<L>>(
-    at: At,
+    at: TurnContext,
     node: &mut N,
     set: &mut LinkSet<L>,
     sink: &mut K,
@@ -84,7 +84,7 @@ fn tell<N: Core, K: Sink, L: Link + Drop, D: Dialer<L>>(
 
 /// Draws a random word for a node, and tells it that.
 fn tell_word<N: Core, K: Sink, W: Words, L: Link + Drop, D: Dialer<L>>(
-    at: At,
+    at: TurnContext,
     node: &mut N,
     set: &mut LinkSet<L>,
     sink: &mut K,
@@ -111,8 +111,8 @@ fn tell_word<N: Core, K: Sink, W: Words, L: Link + Drop, D: Dialer<L>>(
 }
 
 /// Tells a node what came, and carries out what it does. Where it draws a random word, that is what it is told next.
-pub(crate) fn give<N: Core, K: Sink, W: Words, L: Link + Drop, D: Dialer<L>>(
-    at: At,
+pub(crate) fn dispatch<N: Core, K: Sink, W: Words, L: Link + Drop, D: Dialer<L>>(
+    at: TurnContext,
     node: &mut N,
     set: &mut LinkSet<L>,
     sink: &mut K,

@@ -16,7 +16,6 @@ ghost use Rattle.bsc_node_run.specs.Turning.{Admits, AreDue, GivesLines, GivesNe
 ghost use Rattle.bsc_node_run.specs.Turning.{Starts, TurnsTo, event_of, names, passed_by, slots_from};
 ghost use Rattle.bsc_node_run.specs.Worlds.{Dialling, Same, admitting, dialling, ends, link_in, with_link, world_of};
 
-use crate::at::At;
 use crate::bounds::ACCEPT_WAIT_MS;
 use crate::due::Due;
 use crate::halt::Halt;
@@ -24,7 +23,8 @@ use crate::link_set::LinkSet;
 use crate::news::{Change, News};
 use crate::node_core::Core;
 use crate::parts::NodeParts;
-use crate::telling::give;
+use crate::telling::dispatch;
+use crate::turn_context::TurnContext;
 use crate::turn_end::TurnEnd;
 use crate::turn_start::TurnStart;
 use crate::words::Words;
@@ -50,7 +50,7 @@ fn event_of(news: News) -> NodeEvent
 
 /// Tells the node what is new of its links, the oldest first.
 fn give_news<N: Core, K: Sink, W: Words, L: Link + Drop, D: Dialer<L>>(
-    at: At,
+    at: TurnContext,
     node: &mut N,
     set: &mut LinkSet<L>,
     sink: &mut K,
@@ -68,14 +68,14 @@ fn give_news<N: Core, K: Sink, W: Words, L: Link + Drop, D: Dialer<L>>(
     ensures accepts { result ≢ Err HaltType.AcceptFault }
 {
     while let Some(news) = set.due.pop_front() {
-        give(at, node, set, sink, random, dialer, &event_of(news))?;
+        dispatch(at, node, set, sink, random, dialer, &event_of(news))?;
     }
     Ok(())
 }
 
 /// Tells the node what is to be told by now, and gives what isn't.
 fn give_due<'a, N: Core, K: Sink, W: Words, L: Link + Drop, D: Dialer<L>>(
-    at: At,
+    at: TurnContext,
     node: &mut N,
     set: &mut LinkSet<L>,
     sink: &mut K,
@@ -101,7 +101,7 @@ fn give_due<'a, N: Core, K: Sink, W: Words, L: Link + Drop, D: Dialer<L>>(
         if at.passed < due.at {
             return Ok(left);
         }
-        give(at, node, set, sink, random, dialer, &due.event)?;
+        dispatch(at, node, set, sink, random, dialer, &due.event)?;
         left = rest;
     }
     Ok(left)
@@ -144,7 +144,7 @@ fn receive<L: Link + Drop>(
 
 /// Receives once on the link of a name, where the node was told that it is open, and tells the node what came.
 fn hear<N: Core, K: Sink, W: Words, L: Link + Drop, D: Dialer<L>>(
-    at: At,
+    at: TurnContext,
     node: &mut N,
     set: &mut LinkSet<L>,
     sink: &mut K,
@@ -166,14 +166,14 @@ fn hear<N: Core, K: Sink, W: Words, L: Link + Drop, D: Dialer<L>>(
         return Ok(());
     }
     match receive(at.alloc, set, name)? {
-        Some(event) => give(at, node, set, sink, random, dialer, &event),
+        Some(event) => dispatch(at, node, set, sink, random, dialer, &event),
         None => Ok(()),
     }
 }
 
 /// Receives once on each open link in a slot.
 fn hear_slots<N: Core, K: Sink, W: Words, L: Link + Drop, D: Dialer<L>>(
-    at: At,
+    at: TurnContext,
     node: &mut N,
     set: &mut LinkSet<L>,
     sink: &mut K,
@@ -198,7 +198,7 @@ fn hear_slots<N: Core, K: Sink, W: Words, L: Link + Drop, D: Dialer<L>>(
 
 /// Receives once on each open link: those of the hubs first, and then those in the slots.
 fn hear_all<N: Core, K: Sink, W: Words, L: Link + Drop, D: Dialer<L>>(
-    at: At,
+    at: TurnContext,
     node: &mut N,
     set: &mut LinkSet<L>,
     sink: &mut K,
@@ -239,7 +239,7 @@ fn hear_all<N: Core, K: Sink, W: Words, L: Link + Drop, D: Dialer<L>>(
 /// Asks the acceptor once, where the node accepts direct connections, and tells the node of the link that arrived.
 #[tactic(auto, using(bsc_edge::proofs::Common::stays_same))]
 fn admit<N: Core, K: Sink, W: Words, L: Link + Drop, A: Acceptor<L>, D: Dialer<L>>(
-    at: At,
+    at: TurnContext,
     node: &mut N,
     set: &mut LinkSet<L>,
     sink: &mut K,
@@ -269,7 +269,7 @@ fn admit<N: Core, K: Sink, W: Words, L: Link + Drop, A: Acceptor<L>, D: Dialer<L
     match acceptor.next(at.alloc, ACCEPT_WAIT_MS) {
         Ok(Arrived::Link(link)) => {
             set.arrived = Some(link);
-            give(at, node, set, sink, random, dialer, &NodeEvent::Arrived)
+            dispatch(at, node, set, sink, random, dialer, &NodeEvent::Arrived)
         }
         Ok(Arrived::Quiet) => Ok(()),
         Err(LinkFault::Failed) => Err(Halt::AcceptFault),
@@ -279,7 +279,7 @@ fn admit<N: Core, K: Sink, W: Words, L: Link + Drop, A: Acceptor<L>, D: Dialer<L
 
 /// Tells the node that it starts, where it has no start yet.
 fn begin<N: Core, K: Sink, W: Words, L: Link + Drop, D: Dialer<L>>(
-    at: At,
+    at: TurnContext,
     node: &mut N,
     set: &mut LinkSet<L>,
     sink: &mut K,
@@ -298,7 +298,7 @@ fn begin<N: Core, K: Sink, W: Words, L: Link + Drop, D: Dialer<L>>(
     ensures accepts { result ≢ Err HaltType.AcceptFault }
 {
     match start {
-        None => give(at, node, set, sink, random, dialer, &NodeEvent::Start),
+        None => dispatch(at, node, set, sink, random, dialer, &NodeEvent::Start),
         Some(_) => Ok(()),
     }
 }
@@ -371,7 +371,7 @@ pub fn node_turn<
 {
     let now = clock.now();
     let passed = passed_by(from.start, now);
-    let at = At {
+    let at = TurnContext {
         alloc: from.alloc,
         time: now,
         passed,
@@ -387,7 +387,7 @@ pub fn node_turn<
         &mut parts.dialer,
         from.start,
     )?;
-    give(
+    dispatch(
         at,
         node,
         set,

@@ -1,4 +1,5 @@
 -- Whole lines, and what may follow them.
+-- It serves the clauses of `play_lines`.
 use Rattle.std.proofs.Common.{◌≡◌, ℕ, Bool, true, false, ◌==◌, ◌⊎◌, inl, inr, ⊎_elim, List, [], ◌∷◌, ◌++◌, refl, ap, sym, ◌∙◌}
 use Rattle.std.specs.List.{concat}
 use Rattle.bsc_text.specs.Lines.{pieces_of, has_no_lf}
@@ -50,7 +51,8 @@ pub first_piece : (o piece : List ℕ) (pieces : List (List ℕ)) → pieces_of 
 first_piece [] piece pieces h = absurd cc
 first_piece (c ∷ o) piece pieces h = by (first_piece o) (c == 10) refl (pieces_of o) refl
   where
-    by : ((q : List ℕ) (qs : List (List ℕ)) → pieces_of o ≡ q ∷ qs → IsWhole q ⊎ IsLast o q qs) → (b : Bool) → (c == 10) ≡ b → (ps : List (List ℕ)) → pieces_of o ≡ ps → IsWhole piece ⊎ IsLast (c ∷ o) piece pieces
+    by : ((q : List ℕ) (qs : List (List ℕ)) → pieces_of o ≡ q ∷ qs → IsWhole q ⊎ IsLast o q qs) → (b : Bool) → (c == 10) ≡ b → (ps : List (List ℕ)) → pieces_of o ≡ ps → IsWhole piece
+        ⊎ IsLast (c ∷ o) piece pieces
     by next true e ps k =
         let h' = rw e at h in
         let is : piece ≡ c ∷ [] = cc in

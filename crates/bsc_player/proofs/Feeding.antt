@@ -1,4 +1,5 @@
 -- What a feed gives, by the octets that were read and those that are left.
+-- It serves the clauses of `play_lines`.
 use Rattle.std.proofs.Common.{◌≡◌, ℕ, ◌+◌, Bool, true, false, inl, inr, ⊎_elim, List, [], ◌∷◌, ◌++◌, length, refl, ap, sym, ◌∙◌, append_assoc, append-nil, Some, None}
 use Rattle.std.proofs.lemmas.List.{append_cancel_right}
 use Rattle.bsc_text.specs.declared.feed.Feed.{Feed}
@@ -20,7 +21,8 @@ last_of o piece pieces first no_lf = ⊎_elim
     (first_piece o piece pieces first)
 
 -- a piece with no LF is given only at the end of the input
-only_at_end : (old new : Feed) (rest l piece : List ℕ) → Feeds old new (Line l) → pieces_of (unread old ++ rest) ≡ piece ∷ pieces_of (unread new ++ rest) → has_no_lf piece ≡ true → (b : Bool) → old.ended ≡ b → old.ended ≡ true
+only_at_end : (old new : Feed) (rest l piece : List ℕ) → Feeds old new (Line l) → pieces_of (unread old ++ rest) ≡ piece ∷ pieces_of (unread new ++ rest) → has_no_lf piece ≡ true
+    → (b : Bool) → old.ended ≡ b → old.ended ≡ true
 only_at_end old new rest l piece fed first no_lf true e = e
 only_at_end old new rest l piece fed first no_lf false e = absurd (
     let last = last_of (unread old ++ rest) piece (pieces_of (unread new ++ rest)) first no_lf in
@@ -30,7 +32,8 @@ only_at_end old new rest l piece fed first no_lf false e = absurd (
     let told : unread new ++ 10 ∷ [] ≡ g.rest = (let k = g.later in cc) in
     let later : g.rest ≡ 10 ∷ [] = sym told ∙ ap (λ (x : List ℕ). x ++ 10 ∷ []) none.0 in
     let two : pieces_of (unread old ++ 10 ∷ []) ≡ g.piece ∷ (10 ∷ []) ∷ [] = g.first ∙ ap (λ (x : List ℕ). g.piece ∷ pieces_of x) later in
-    let one : pieces_of (unread old ++ 10 ∷ []) ≡ (piece ++ 10 ∷ []) ∷ [] = ap (λ (x : List ℕ). pieces_of (x ++ 10 ∷ [])) front ∙ ap pieces_of (sym (append-nil (piece ++ 10 ∷ []))) ∙ pieces_of-lf piece [] no_lf in
+    let one : pieces_of (unread old ++ 10 ∷ []) ≡ (piece ++ 10 ∷ []) ∷ [] = ap (λ (x : List ℕ). pieces_of (x ++ 10 ∷ [])) front ∙ ap pieces_of (sym (append-nil (piece ++ 10 ∷ [])))
+    ∙ pieces_of-lf piece [] no_lf in
     let bad : g.piece ∷ (10 ∷ []) ∷ [] ≡ (piece ++ 10 ∷ []) ∷ [] = sym two ∙ one in
     cc)
 
@@ -58,7 +61,8 @@ line_given old new rest l at_end fed =
     }
 
 -- the line that was given is refused, and no other would have been
-pub line_refused : {S : Type 0} (means : Meaning S) (old new : Feed) (rest l : List ℕ) (state : S) → LineGiven old new rest l → means.step state l ≡ None → RefusesFirst means state old.count (unread old ++ rest) × RefusesNext means state old.count (unread old) rest
+pub line_refused : {S : Type 0} (means : Meaning S) (old new : Feed) (rest l : List ℕ) (state : S) → LineGiven old new rest l → means.step state l ≡ None
+    → RefusesFirst means state old.count (unread old ++ rest) × RefusesNext means state old.count (unread old) rest
 line_refused means old new rest l state g none =
     let after = fits_after means state old.count g.piece g.fits ∙ ap (means.step state) (sym g.line) ∙ none in
     let parted : unread old ++ rest ≡ (g.piece ++ unread new) ++ rest = first_and_rest (unread old ++ rest) g.piece (unread new ++ rest) g.first ∙ sym (append_assoc g.piece (unread new) rest) in
@@ -76,14 +80,17 @@ line_refused means old new rest l state g none =
     )
 
 -- a line that is too big is refused, whatever may follow
-big_first : {S : Type 0} (means : Meaning S) (old new : Feed) (state : S) (left : List ℕ) → (old.ended ≡ true → left ≡ []) → Feeds old new Refused → RefusesFirst means state old.count (unread old ++ left)
+big_first : {S : Type 0} (means : Meaning S) (old new : Feed) (state : S) (left : List ℕ) → (old.ended ≡ true → left ≡ []) → Feeds old new Refused
+    → RefusesFirst means state old.count (unread old ++ left)
 big_first means old new state left at_end fed =
     let big = fed left at_end in
     record { piece = big.piece; pieces = big.pieces; first = big.first; refused = rw big.big refl }
 
-big_next : {S : Type 0} (means : Meaning S) (old new : Feed) (state : S) (rest : List ℕ) → (old.ended ≡ true → rest ≡ []) → Feeds old new Refused → (b : Bool) → old.ended ≡ b → RefusesNext means state old.count (unread old) rest
+big_next : {S : Type 0} (means : Meaning S) (old new : Feed) (state : S) (rest : List ℕ) → (old.ended ≡ true → rest ≡ []) → Feeds old new Refused → (b : Bool) → old.ended ≡ b
+    → RefusesNext means state old.count (unread old) rest
 big_next means old new state rest at_end fed true e = inl (at_end e)
 big_next means old new state rest at_end fed false e = inr (λ more. big_first means old new state more (λ h. absurd cc) fed)
 
-pub big_refused : {S : Type 0} (means : Meaning S) (old new : Feed) (rest : List ℕ) (state : S) → (old.ended ≡ true → rest ≡ []) → Feeds old new Refused → RefusesFirst means state old.count (unread old ++ rest) × RefusesNext means state old.count (unread old) rest
+pub big_refused : {S : Type 0} (means : Meaning S) (old new : Feed) (rest : List ℕ) (state : S) → (old.ended ≡ true → rest ≡ []) → Feeds old new Refused
+    → RefusesFirst means state old.count (unread old ++ rest) × RefusesNext means state old.count (unread old) rest
 big_refused means old new rest state at_end fed = (big_first means old new state rest at_end fed, big_next means old new state rest at_end fed old.ended refl)

@@ -1,4 +1,5 @@
 -- What the loop over the lines of an input keeps, and how it ends.
+-- It serves the clauses of `play_lines`.
 use Rattle.std.proofs.Common.{◌≡◌, ℕ, ◌+◌, ◌≤◌, ◌<◌, ⊎_elim, Bool, true, false, List, [], ◌++◌, refl, ap, sym, ◌∙◌, subst, append-nil, arith, Option, Some, None, Err}
 use Rattle.std.specs.Option.{option_map}
 use Rattle.std.specs.Io.KnownBytes.{Appends, Keeps, IsAtEnd}
@@ -21,20 +22,23 @@ use Rattle.bsc_player.proofs.Feeding.{line_given, line_refused, big_refused}
 use Rattle.bsc_player.proofs.Stopping.{breaks_off, runs_out, ends_refused, ends_as, ends_at_fault}
 
 -- What the loop over the lines keeps.
-pub record PlaysOn {S : Type 0} (means : Meaning S) (sb : S → Type 0) (left_before held_before left held : Option (List ℕ)) (feed : Feed) (number : ℕ) (stands : S → Type 0) (collected : List ℕ) : Type 0 where
+pub record PlaysOn {S : Type 0} (means : Meaning S) (sb : S → Type 0) (left_before held_before left held : Option (List ℕ)) (feed : Feed) (number : ℕ) (stands : S → Type 0)
+    (collected : List ℕ) : Type 0 where
   pub some : (s : S) × stands s
   pub counted : number ≤ feed.count + 1
   pub reached : (s0 : S) (o t : List ℕ) → sb s0 → left_before ≡ Some o → held_before ≡ Some t → Reached means s0 o t left held (unread feed) feed.ended feed.count number stands collected
 
 -- at first
-pub loop_begins : {S : Type 0} (means : Meaning S) (sb : S → Type 0) (left held : Option (List ℕ)) (feed : Feed) (collected : List ℕ) → ((s : S) × sb s) → unread feed ≡ [] → feed.ended ≡ false → feed.count ≡ 0 → collected ≡ [] → PlaysOn means sb left held left held feed 1 sb collected
+pub loop_begins : {S : Type 0} (means : Meaning S) (sb : S → Type 0) (left held : Option (List ℕ)) (feed : Feed) (collected : List ℕ) → ((s : S) × sb s) → unread feed ≡ []
+    → feed.ended ≡ false → feed.count ≡ 0 → collected ≡ [] → PlaysOn means sb left held left held feed 1 sb collected
 loop_begins means sb left held feed collected some none going zero empty = record {
   some = some;
   counted = omega arith;
   reached = λ s0 o t start left_is held_is. rw empty (begins means s0 o t left held (unread feed) feed.ended feed.count sb start left_is held_is none going zero);
 }
 
-stood_in : {S : Type 0} (stands : S → Type 0) (before after : List ℕ) (o : Option (LineOutcome S)) → LineStandsAs stands before after o → (st : LineOutcome S) × (o ≡ Some st) × stands st.state × (after ≡ before ++ st.text)
+stood_in : {S : Type 0} (stands : S → Type 0) (before after : List ℕ) (o : Option (LineOutcome S)) → LineStandsAs stands before after o → (st : LineOutcome S) × (o ≡ Some st)
+    × stands st.state × (after ≡ before ++ st.text)
 stood_in stands before after None h = absurd h
 stood_in stands before after (Some st) h = (st, refl, h.0, h.1)
 
@@ -52,15 +56,19 @@ loop_plays means sb lb hb left held feed new number stands stands' collected col
       let g = line_given feed new r.rest l r.at_end fed in
       let st = stood_in stands' collected collected' (means.step r.state l) (played r.state r.holds) in
       let after = fits_after means r.state feed.count g.piece g.fits ∙ ap (means.step r.state) (sym g.line) ∙ st.1 in
-      plays_line means s0 o t left held (unread feed) (unread new) feed.ended new.ended feed.count new.count number stands stands' collected collected' g.piece st.0 r g.first g.lf after st.2 st.3 same g.counted);
+      plays_line means s0 o t left held (unread feed)
+      (unread new) feed.ended new.ended feed.count new.count number stands stands' collected collected' g.piece st.0 r g.first g.lf after st.2 st.3 same g.counted);
 }
 
 -- some of the collected text was written
-pub loop_hands_over : {S : Type 0} (means : Meaning S) (sb : S → Type 0) (lb hb left held held' : Option (List ℕ)) (feed : Feed) (number : ℕ) (stands : S → Type 0) (collected collected' : List ℕ) → PlaysOn means sb lb hb left held feed number stands collected → HandsOver held held' collected collected' → PlaysOn means sb lb hb left held' feed number stands collected'
+pub loop_hands_over : {S : Type 0} (means : Meaning S) (sb : S → Type 0) (lb hb left held held' : Option (List ℕ)) (feed : Feed) (number : ℕ) (stands : S → Type 0)
+    (collected collected' : List ℕ) → PlaysOn means sb lb hb left held feed number stands collected → HandsOver held held' collected collected'
+    → PlaysOn means sb lb hb left held' feed number stands collected'
 loop_hands_over means sb lb hb left held held' feed number stands collected collected' inv over = record {
   some = inv.some;
   counted = inv.counted;
-  reached = λ s0 o t start left_is held_is. hands_over means s0 o t left held held' (unread feed) feed.ended feed.count number stands collected collected' (inv.reached s0 o t start left_is held_is) over;
+  reached = λ s0 o t start left_is held_is. hands_over means s0 o t left held held' (unread feed) feed.ended feed.count number stands collected collected'
+      (inv.reached s0 o t start left_is held_is) over;
 }
 
 -- the feed looked for a line and found none, or tried a read
@@ -71,7 +79,8 @@ pub loop_reads : {S : Type 0} (means : Meaning S) (sb : S → Type 0) (lb hb lef
 loop_reads means sb lb hb left left' held feed new number stands collected inv going kept at_end same = record {
   some = inv.some;
   counted = (let k = inv.counted in omega arith);
-  reached = λ s0 o t start left_is held_is. reads_on means s0 o t left left' held (unread feed) (unread new) feed.ended new.ended feed.count new.count number stands collected (inv.reached s0 o t start left_is held_is) going kept at_end same;
+  reached = λ s0 o t start left_is held_is. reads_on means s0 o t left left' held (unread feed) (unread new) feed.ended new.ended feed.count new.count number stands collected
+      (inv.reached s0 o t start left_is held_is) going kept at_end same;
 }
 
 keeps_same : (left : Option (List ℕ)) (a b : List ℕ) → b ≡ a → Keeps (option_map (λ o. a ++ o) left) (option_map (λ o. b ++ o) left)
@@ -86,7 +95,8 @@ loop_wants means sb lb hb left held feed new number stands collected inv wants s
     loop_reads means sb lb hb left left held feed new number stands collected inv (sym same ∙ going) (keeps_same left (unread feed) (unread new) wants.unread_same) (λ h. absurd cc) wants.count
 
 -- all of the collected text was written, and a read was tried
-pub loop_fills : {S : Type 0} (means : Meaning S) (sb : S → Type 0) (lb hb left left' held held' : Option (List ℕ)) (feed new filled : Feed) (number : ℕ) (stands : S → Type 0) (collected collected' : List ℕ)
+pub loop_fills : {S : Type 0} (means : Meaning S) (sb : S → Type 0) (lb hb left left' held held' : Option (List ℕ)) (feed new filled : Feed) (number : ℕ) (stands : S → Type 0)
+    (collected collected' : List ℕ)
     → PlaysOn means sb lb hb left held feed number stands collected → WantsMore feed new → new.ended ≡ feed.ended
     → Appends held held' collected → collected' ≡ []
     → Keeps (rest_of new left) (rest_of filled left') → (filled.ended ≡ true → IsAtEnd left') → filled.count ≡ new.count
@@ -94,17 +104,20 @@ pub loop_fills : {S : Type 0} (means : Meaning S) (sb : S → Type 0) (lb hb lef
 loop_fills means sb lb hb left left' held held' feed new filled number stands collected collected' inv wants same put empty kept at_end count =
     let over : HandsOver held held' collected collected' = record { part = collected; put = put; kept = sym (append-nil collected) ∙ ap (λ (x : List ℕ). collected ++ x) (sym empty) } in
     let wanted = loop_wants means sb lb hb left held feed new number stands collected inv wants same in
-    loop_reads means sb lb hb left left' held' new filled number stands collected' (loop_hands_over means sb lb hb left held held' new number stands collected collected' wanted over) wants.used_up.1 kept at_end count
+    loop_reads means sb lb hb left left' held' new filled number stands collected'
+    (loop_hands_over means sb lb hb left held held' new number stands collected collected' wanted over) wants.used_up.1 kept at_end count
 
 -- How a play stopped, over what it had reached.
-stops_as : (p : List ℕ → Played) (result end : PlayEnd) (o t : List ℕ) (left held held' : Option (List ℕ)) (collected : List ℕ) → StopsAs result end held held' collected → (Appends held held' collected → PlaysOut p end o t left held') → (PutsPrefix held held' collected → WritesSome p o t left held') → PlaysOut p result o t left held'
+stops_as : (p : List ℕ → Played) (result end : PlayEnd) (o t : List ℕ) (left held held' : Option (List ℕ)) (collected : List ℕ) → StopsAs result end held held' collected
+    → (Appends held held' collected → PlaysOut p end o t left held') → (PutsPrefix held held' collected → WritesSome p o t left held') → PlaysOut p result o t left held'
 stops_as p result end o t left held held' collected stopped all some = ⊎_elim
     (λ (h : (result ≡ end) × Appends held held' collected). subst (λ (e : PlayEnd). PlaysOut p e o t left held') (sym h.0) (all h.1))
     (λ (h : (result ≡ WriteFault) × PutsPrefix held held' collected). subst (λ (e : PlayEnd). PlaysOut p e o t left held') (sym h.0) (some h.1))
     stopped
 
 -- the line that was given is refused
-pub loop_refuses : {S : Type 0} (means : Meaning S) (sb : S → Type 0) (lb hb left held held' : Option (List ℕ)) (feed new : Feed) (number : ℕ) (stands stands' : S → Type 0) (collected text l : List ℕ) (result : PlayEnd) (fault : LineFault)
+pub loop_refuses : {S : Type 0} (means : Meaning S) (sb : S → Type 0) (lb hb left held held' : Option (List ℕ)) (feed new : Feed) (number : ℕ) (stands stands' : S → Type 0)
+    (collected text l : List ℕ) (result : PlayEnd) (fault : LineFault)
     → PlaysOn means sb lb hb left held feed number stands collected
     → Feeds feed new (Line l) → fault ≡ LineRefused
     → ((s : S) → stands s → StepsTo stands' (Err fault) collected text (means.step s l)) → text ≡ collected
@@ -120,7 +133,8 @@ loop_refuses means sb lb hb left held held' feed new number stands stands' colle
     (λ part. breaks_off means s0 o t left held held' (unread feed) feed.ended feed.count number stands collected r part)
 
 -- the next line is too big
-pub loop_refuses_big : {S : Type 0} (means : Meaning S) (sb : S → Type 0) (lb hb left held held' : Option (List ℕ)) (feed new : Feed) (number : ℕ) (stands : S → Type 0) (collected : List ℕ) (result : PlayEnd)
+pub loop_refuses_big : {S : Type 0} (means : Meaning S) (sb : S → Type 0) (lb hb left held held' : Option (List ℕ)) (feed new : Feed) (number : ℕ) (stands : S → Type 0) (collected : List ℕ)
+    (result : PlayEnd)
     → PlaysOn means sb lb hb left held feed number stands collected
     → Feeds feed new Refused
     → StopsAs result (BadLine number) held held' collected
@@ -133,7 +147,8 @@ loop_refuses_big means sb lb hb left held held' feed new number stands collected
     (λ part. breaks_off means s0 o t left held held' (unread feed) feed.ended feed.count number stands collected r part)
 
 -- memory ran out
-pub loop_runs_out : {S : Type 0} (means : Meaning S) (sb : S → Type 0) (lb hb left held held' : Option (List ℕ)) (feed : Feed) (number : ℕ) (stands : S → Type 0) (collected text : List ℕ) (result : PlayEnd)
+pub loop_runs_out : {S : Type 0} (means : Meaning S) (sb : S → Type 0) (lb hb left held held' : Option (List ℕ)) (feed : Feed) (number : ℕ) (stands : S → Type 0) (collected text : List ℕ)
+    (result : PlayEnd)
     → PlaysOn means sb lb hb left held feed number stands collected → text ≡ collected
     → StopsAs result NoMemory held held' text
     → (s0 : S) (o t : List ℕ) → sb s0 → lb ≡ Some o → hb ≡ Some t → PlaysOut (played_of means s0) result o t left held'
@@ -158,7 +173,8 @@ loop_faults means sb lb hb left held feed number stands collected inv empty goin
     ends_at_fault means s0 o t left held (unread feed) feed.ended feed.count number stands (rw empty at (inv.reached s0 o t start left_is held_is)) going no_lf
 
 -- the input ended
-pub loop_ends : {S : Type 0} (means : Meaning S) (sb : S → Type 0) (lb hb left held held' : Option (List ℕ)) (feed new : Feed) (number : ℕ) (stands : S → Type 0) (collected : List ℕ) (result end : PlayEnd) (b : Bool)
+pub loop_ends : {S : Type 0} (means : Meaning S) (sb : S → Type 0) (lb hb left held held' : Option (List ℕ)) (feed new : Feed) (number : ℕ) (stands : S → Type 0) (collected : List ℕ)
+    (result end : PlayEnd) (b : Bool)
     → PlaysOn means sb lb hb left held feed number stands collected
     → HasEnded feed new → new.ended ≡ feed.ended → ((s : S) → stands s → b ≡ means.may_end s) → end ≡ end_of b number
     → StopsAs result end held held' collected

@@ -1,4 +1,5 @@
 -- How a run ends whose input was played.
+-- It serves the clauses of `out_of_memory`.
 use Rattle.std.proofs.Common.{◌≡◌, ℕ, ◌⊎◌, inl, inr, ⊎_elim, List, [], ◌++◌, take, drop, refl, ap, sym, ◌∙◌, subst, append-nil, arith, Option, Some, None, Result, Ok, Err}
 use Rattle.std.proofs.lemmas.List.{take-append-drop}
 use Rattle.std.specs.Prelude.{⊤, OnOk, OnErr}
@@ -17,7 +18,8 @@ use Rattle.bsc_lemmas.proofs.Lists.{appends_to as appended}
 use Rattle.bsc_outside.proofs.Common.{puts_all}
 
 -- a write that was tried
-pub tried : (before after : Option (List ℕ)) (octets : List ℕ) (answer : Result ⊤ Failed) → OnOk answer (Appends before after octets) → OnErr answer (PutsPrefix before after octets) → PutsPrefix before after octets
+pub tried : (before after : Option (List ℕ)) (octets : List ℕ) (answer : Result ⊤ Failed) → OnOk answer (Appends before after octets) → OnErr answer (PutsPrefix before after octets)
+    → PutsPrefix before after octets
 tried before after octets (Ok done) ok err = puts_all before after octets ok
 tried before after octets (Err failed) ok err = err
 

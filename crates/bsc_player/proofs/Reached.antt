@@ -1,4 +1,5 @@
 -- What a play has reached: what was read, what was given, and what was written.
+-- It serves the clauses of `play_lines`.
 use Rattle.std.proofs.Common.{◌≡◌, ℕ, ◌+◌, Bool, true, false, ◌⊎◌, inl, inr, ⊎_elim, List, [], ◌∷◌, ◌++◌, length, refl, ap, sym, ◌∙◌, append_assoc, append-nil, Option, Some, None}
 use Rattle.std.specs.Option.{option_map}
 use Rattle.std.specs.Io.KnownBytes.{Keeps, IsAtEnd}
@@ -24,7 +25,8 @@ pub record IsAll (given : List ℕ) (pieces : List (List ℕ)) (unread rest : Li
 
 -- What a play of the input o has reached, where t was held before it: the octets that were given, those that were
 -- read and not given, the text of the lines, of which some first part was written and the rest is collected.
-pub record Reached {S : Type 0} (means : Meaning S) (s0 : S) (o t : List ℕ) (left held : Option (List ℕ)) (unread : List ℕ) (ended : Bool) (count number : ℕ) (stands : S → Type 0) (collected : List ℕ) : Type 0 where
+pub record Reached {S : Type 0} (means : Meaning S) (s0 : S) (o t : List ℕ) (left held : Option (List ℕ)) (unread : List ℕ) (ended : Bool) (count number : ℕ) (stands : S → Type 0)
+    (collected : List ℕ) : Type 0 where
   pub given : List ℕ
   pub rest : List ℕ
   pub pieces : List (List ℕ)
@@ -41,7 +43,8 @@ pub record Reached {S : Type 0} (means : Meaning S) (s0 : S) (o t : List ℕ) (l
   pub parts : text ≡ written ++ collected
 
 -- at first nothing was read
-pub begins : {S : Type 0} (means : Meaning S) (s0 : S) (o t : List ℕ) (left held : Option (List ℕ)) (unread : List ℕ) (ended : Bool) (count : ℕ) (stands : S → Type 0) → stands s0 → left ≡ Some o → held ≡ Some t → unread ≡ [] → ended ≡ false → count ≡ 0 → Reached means s0 o t left held unread ended count 1 stands []
+pub begins : {S : Type 0} (means : Meaning S) (s0 : S) (o t : List ℕ) (left held : Option (List ℕ)) (unread : List ℕ) (ended : Bool) (count : ℕ) (stands : S → Type 0) → stands s0
+    → left ≡ Some o → held ≡ Some t → unread ≡ [] → ended ≡ false → count ≡ 0 → Reached means s0 o t left held unread ended count 1 stands []
 begins means s0 o t left held unread ended count stands holds left_is held_is none going zero = record {
   given = [];
   rest = o;
@@ -62,11 +65,13 @@ begins means s0 o t left held unread ended count stands holds left_is held_is no
 -- what was read is given after what was given
 given_more : (given piece : List ℕ) (pieces : List (List ℕ)) → IsGiven given pieces → IsWhole piece → IsGiven (given ++ piece) (pieces ++ piece ∷ [])
 given_more given piece pieces g w = record {
-  cuts = λ more. (ap pieces_of (append_assoc given piece more) ∙ g.cuts (piece ++ more) ∙ ap (λ (x : List (List ℕ)). pieces ++ x) (w.cuts more) ∙ sym (append_assoc pieces (piece ∷ []) (pieces_of more)));
+  cuts = λ more. (ap pieces_of (append_assoc given piece more) ∙ g.cuts (piece ++ more) ∙ ap (λ (x : List (List ℕ)). pieces ++ x) (w.cuts more)
+      ∙ sym (append_assoc pieces (piece ∷ []) (pieces_of more)));
   whole = λ more. (ap whole_lines (append_assoc given piece more) ∙ g.whole (piece ++ more) ∙ ap (λ (x : List ℕ). given ++ x) (w.whole more) ∙ sym (append_assoc given piece (whole_lines more)));
 }
 
-given_last : (given piece unread rest : List ℕ) (pieces : List (List ℕ)) (ended : Bool) → IsGiven given pieces → pieces_of piece ≡ piece ∷ [] → unread ≡ [] → rest ≡ [] → ended ≡ true → IsAll (given ++ piece) (pieces ++ piece ∷ []) unread rest ended
+given_last : (given piece unread rest : List ℕ) (pieces : List (List ℕ)) (ended : Bool) → IsGiven given pieces → pieces_of piece ≡ piece ∷ [] → unread ≡ [] → rest ≡ [] → ended ≡ true
+    → IsAll (given ++ piece) (pieces ++ piece ∷ []) unread rest ended
 given_last given piece unread rest pieces ended g one none_unread none_left at_end = record {
   cut = g.cuts piece ∙ ap (λ (x : List (List ℕ)). pieces ++ x) one;
   none_unread = none_unread;
@@ -79,7 +84,8 @@ nothing_in_front [] b h = (refl, h)
 nothing_in_front (c ∷ a) b h = absurd cc
 
 -- where a line is still to be given, each line before it has its LF
-pub given_before : (given : List ℕ) (pieces : List (List ℕ)) (unread rest piece : List ℕ) (ended : Bool) (after : List (List ℕ)) → pieces_of (unread ++ rest) ≡ piece ∷ after → IsGiven given pieces ⊎ IsAll given pieces unread rest ended → IsGiven given pieces
+pub given_before : (given : List ℕ) (pieces : List (List ℕ)) (unread rest piece : List ℕ) (ended : Bool) (after : List (List ℕ)) → pieces_of (unread ++ rest) ≡ piece ∷ after
+    → IsGiven given pieces ⊎ IsAll given pieces unread rest ended → IsGiven given pieces
 given_before given pieces unread rest piece ended after first cut = ⊎_elim
     (λ (g : IsGiven given pieces). g)
     (λ (a : IsAll given pieces unread rest ended).
@@ -96,7 +102,9 @@ given_going given pieces unread rest ended going cut = ⊎_elim
     cut
 
 -- the lines that were given, with the next one
-cut_more : (given : List ℕ) (pieces : List (List ℕ)) (unread unread' rest piece : List ℕ) (ended : Bool) → IsGiven given pieces → pieces_of (unread ++ rest) ≡ piece ∷ pieces_of (unread' ++ rest) → (has_no_lf piece ≡ true → ended ≡ true) → IsGiven (given ++ piece) (pieces ++ piece ∷ []) ⊎ IsAll (given ++ piece) (pieces ++ piece ∷ []) unread' rest ended
+cut_more : (given : List ℕ) (pieces : List (List ℕ)) (unread unread' rest piece : List ℕ) (ended : Bool) → IsGiven given pieces
+    → pieces_of (unread ++ rest) ≡ piece ∷ pieces_of (unread' ++ rest) → (has_no_lf piece ≡ true → ended ≡ true) → IsGiven (given ++ piece) (pieces ++ piece ∷ [])
+    ⊎ IsAll (given ++ piece) (pieces ++ piece ∷ []) unread' rest ended
 cut_more given pieces unread unread' rest piece ended g first lf = ⊎_elim
     (λ (w : IsWhole piece). inl (given_more given piece pieces g w))
     (λ (l : IsLast (unread ++ rest) piece (pieces_of (unread' ++ rest))).
@@ -106,7 +114,8 @@ cut_more given pieces unread unread' rest piece ended g first lf = ⊎_elim
     (first_piece (unread ++ rest) piece (pieces_of (unread' ++ rest)) first)
 
 -- a line was given, and carried out
-next_line : {S : Type 0} (means : Meaning S) (s0 : S) (o t : List ℕ) (left held : Option (List ℕ)) (unread unread' : List ℕ) (ended : Bool) (count number : ℕ) (stands stands' : S → Type 0) (collected collected' piece : List ℕ) (st : LineOutcome S) (r : Reached means s0 o t left held unread ended count number stands collected)
+next_line : {S : Type 0} (means : Meaning S) (s0 : S) (o t : List ℕ) (left held : Option (List ℕ)) (unread unread' : List ℕ) (ended : Bool) (count number : ℕ) (stands stands' : S → Type 0)
+    (collected collected' piece : List ℕ) (st : LineOutcome S) (r : Reached means s0 o t left held unread ended count number stands collected)
     → pieces_of (unread ++ r.rest) ≡ piece ∷ pieces_of (unread' ++ r.rest)
     → (has_no_lf piece ≡ true → ended ≡ true)
     → piece_after means r.state count piece ≡ Some st
@@ -132,7 +141,8 @@ next_line means s0 o t left held unread unread' ended count number stands stands
       parts = ap (λ (x : List ℕ). x ++ st.text) r.parts ∙ append_assoc r.written collected st.text ∙ ap (λ (x : List ℕ). r.written ++ x) (sym grown);
     }
 
-pub plays_line : {S : Type 0} (means : Meaning S) (s0 : S) (o t : List ℕ) (left held : Option (List ℕ)) (unread unread' : List ℕ) (ended ended' : Bool) (count count' number : ℕ) (stands stands' : S → Type 0) (collected collected' piece : List ℕ) (st : LineOutcome S) (r : Reached means s0 o t left held unread ended count number stands collected)
+pub plays_line : {S : Type 0} (means : Meaning S) (s0 : S) (o t : List ℕ) (left held : Option (List ℕ)) (unread unread' : List ℕ) (ended ended' : Bool) (count count' number : ℕ)
+    (stands stands' : S → Type 0) (collected collected' piece : List ℕ) (st : LineOutcome S) (r : Reached means s0 o t left held unread ended count number stands collected)
     → pieces_of (unread ++ r.rest) ≡ piece ∷ pieces_of (unread' ++ r.rest)
     → (has_no_lf piece ≡ true → ended ≡ true)
     → piece_after means r.state count piece ≡ Some st
@@ -145,7 +155,8 @@ plays_line means s0 o t left held unread unread' ended ended' count count' numbe
     rw (same, counted) (next_line means s0 o t left held unread unread' ended count number stands stands' collected collected' piece st r first lf after holds grown)
 
 -- some of the collected text was written
-pub hands_over : {S : Type 0} (means : Meaning S) (s0 : S) (o t : List ℕ) (left held held' : Option (List ℕ)) (unread : List ℕ) (ended : Bool) (count number : ℕ) (stands : S → Type 0) (collected collected' : List ℕ)
+pub hands_over : {S : Type 0} (means : Meaning S) (s0 : S) (o t : List ℕ) (left held held' : Option (List ℕ)) (unread : List ℕ) (ended : Bool) (count number : ℕ) (stands : S → Type 0)
+    (collected collected' : List ℕ)
     → Reached means s0 o t left held unread ended count number stands collected
     → HandsOver held held' collected collected'
     → Reached means s0 o t left held' unread ended count number stands collected'
@@ -167,7 +178,8 @@ hands_over means s0 o t left held held' unread ended count number stands collect
 }
 
 -- what is left where what is not given is kept
-keeps_told : (unread unread' rest : List ℕ) (left left' : Option (List ℕ)) → left ≡ Some rest → Keeps (option_map (λ o. unread ++ o) left) (option_map (λ o. unread' ++ o) left') → (rest' : List ℕ) × (left' ≡ Some rest') × (unread' ++ rest' ≡ unread ++ rest)
+keeps_told : (unread unread' rest : List ℕ) (left left' : Option (List ℕ)) → left ≡ Some rest → Keeps (option_map (λ o. unread ++ o) left) (option_map (λ o. unread' ++ o) left')
+    → (rest' : List ℕ) × (left' ≡ Some rest') × (unread' ++ rest' ≡ unread ++ rest)
 keeps_told unread unread' rest None left' same h = absurd cc
 keeps_told unread unread' rest (Some x) None same h = absurd h
 keeps_told unread unread' rest (Some x) (Some y) same h = let is : x ≡ rest = cc in (y, refl, h ∙ ap (λ (w : List ℕ). unread ++ w) is)
@@ -177,7 +189,8 @@ at_end_none None rest same h = absurd cc
 at_end_none (Some x) rest same h = let is : x ≡ rest = cc in sym is ∙ h
 
 -- a read was tried, which keeps what is not given
-pub reads_on : {S : Type 0} (means : Meaning S) (s0 : S) (o t : List ℕ) (left left' held : Option (List ℕ)) (unread unread' : List ℕ) (ended ended' : Bool) (count count' number : ℕ) (stands : S → Type 0) (collected : List ℕ)
+pub reads_on : {S : Type 0} (means : Meaning S) (s0 : S) (o t : List ℕ) (left left' held : Option (List ℕ)) (unread unread' : List ℕ) (ended ended' : Bool) (count count' number : ℕ)
+    (stands : S → Type 0) (collected : List ℕ)
     → Reached means s0 o t left held unread ended count number stands collected
     → ended ≡ false
     → Keeps (option_map (λ o. unread ++ o) left) (option_map (λ o. unread' ++ o) left')

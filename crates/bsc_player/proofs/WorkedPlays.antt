@@ -1,4 +1,5 @@
 -- Inputs of the small language, and what they come to, worked by hand.
+-- No clause needs it: worked examples.
 use Rattle.std.proofs.Common.{◌≡◌, [], false, codes, refl, Some, None}
 use Rattle.bsc_player.specs.Playing.{play, played_of}
 use Rattle.bsc_player.specs.Echo.{echo}

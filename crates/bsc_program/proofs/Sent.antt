@@ -1,4 +1,5 @@
 -- What is left of a session may go to another thread, whatever its link, its clock and its journal were: of these it has nothing.
+-- It serves the clauses of `begin`.
 use denote.RattleType.{RattleType}
 use denote.Param.Send.{IsSend, sendable}
 use Rattle.atomic_table.proofs.badge.Badge.TheSendSync as badge

@@ -1,27 +1,30 @@
 //! `bsc`: the switching layer of BACnet Secure Connect, on the command line.
 //!
 //! All that the program does is `run` of `bsc_commands`, which `running` calls. `main` hands it standard input and output, the
-//! files, the clock, the random octets, the links and the threads of the machine that it is on. Where the run ends with a fault, `tell` of
+//! files, the clock, the random octets, the links and the threads of the machine that it is on, and the file that stops a hub, where
+//! the words name one (`stop_file`). Where the run ends with a fault, `tell` of
 //! `bsc_why` says on standard error why, by what was heard of these.
 #![tactic(auto)]
 
 mod parts;
 mod running;
+mod stop_file;
 mod texts;
 mod threading;
 
+use bsc_cli::{Asked, ReadWords};
 use bsc_edge::{DiskJournals, Kind, Monotonic, Places, Unstarted, launch};
 use bsc_node_command::RandomWords;
 use bsc_node_run::NodeParts;
 use bsc_player::out_of_memory;
 use bsc_serve::ServingParts;
-use bsc_words::{Asked, ReadWords};
 use parts::{Rooms, rooms_of, sockets_of};
 use running::{acceptor_of, outside_of, run_outside, sink_of, source_of, spawner_of, tell_why};
 use std::alloc::Global;
 use std::process::ExitCode;
 use std::sync::Arc;
 use std::{fs, io};
+use stop_file::{StopFile, stop_path};
 use texts::texts_of;
 use threading::{Job, SessionThread, thread_of};
 
@@ -43,6 +46,7 @@ fn main(rt: HostRuntime) -> ExitCode {
         return ExitCode::from(out_of_memory(&mut sink));
     };
     let read = ReadWords::of(alloc, texts.words.as_slice());
+    let mut stop_file = StopFile::new(rt, stop_path(&read));
     let Ok(rooms) = rooms_of(rt, alloc) else {
         return ExitCode::from(out_of_memory(&mut sink));
     };
@@ -75,7 +79,7 @@ fn main(rt: HostRuntime) -> ExitCode {
             journals: DiskJournals::new(rt),
         },
     );
-    let status = run_outside(&rt, alloc, &read, &mut outside);
+    let status = run_outside(&rt, alloc, &read, &mut outside, &mut stop_file);
     tell_why(
         &rt,
         alloc,

@@ -1,9 +1,9 @@
 //! What is made of the machine before a run.
 use bsc_edge::{Kind, Places};
 use bsc_octets::NoMemory;
-use bsc_recorders::{DiskNote, KeptFiles, NotedDisk, ToldFiles};
 use bsc_serve::SESSIONS;
-use bsc_sockets::{Door, RealDialer, RealWaiter, real_dialer};
+use bsc_sockets::{Listener, RealDialer, RealWaiter, real_dialer};
+use bsc_why::{DiskNote, KeptFiles, NotedDisk, ToldFiles};
 use std::alloc::Global;
 use std::cell::Cell;
 use std::env::Env;
@@ -22,7 +22,7 @@ pub(crate) fn sockets_of<H: Clock + Net + RandomSource + Wait + Eprint + Copy + 
     alloc: Global,
     kind: Kind,
     stderr: Stderr,
-) -> Result<(RealWaiter<H>, RealDialer<H>, Door<H>), NoMemory> {
+) -> Result<(RealWaiter<H>, RealDialer<H>, Listener<H>), NoMemory> {
     let Ok(waiter) = RealWaiter::of(rt, alloc, kind) else {
         return Err(NoMemory);
     };
@@ -30,7 +30,7 @@ pub(crate) fn sockets_of<H: Clock + Net + RandomSource + Wait + Eprint + Copy + 
         return Err(NoMemory);
     };
     let dialer = real_dialer(rt, alloc, of_links)?;
-    let door = Door::new(rt, alloc, kind, of_gate).logged_at(stderr);
+    let door = Listener::new(rt, alloc, kind, of_gate).logged_at(stderr);
     Ok((waiter, dialer, door))
 }
 

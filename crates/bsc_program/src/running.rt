@@ -1,6 +1,7 @@
 //! The run, as `main` asks for it.
 ghost use Rattle.std.specs.Prelude.{◌≡◌, [], Some, None};
 
+use bsc_cli::ReadWords;
 use bsc_commands::{Outside, run};
 use bsc_edge::{
     Acceptor, Clock, Dialer, DiskJournal, Files, Job, Journals, Link, Places, Spawner,
@@ -10,11 +11,9 @@ use bsc_hub::Kept;
 use bsc_hub_command::HubPlace;
 use bsc_node_run::{NodeParts, Words};
 use bsc_outside::{Sink, Source, ToldSource, ToldWriter, WriterSink};
-use bsc_recorders::{KeptFiles, KeptSource, NotedAcceptor, NotedSink, ToldFiles};
-use bsc_serve::ServingParts;
+use bsc_serve::{ServingParts, StopAsker};
 use bsc_session::SessionJob;
-use bsc_why::{Heard, name_in, tell};
-use bsc_words::ReadWords;
+use bsc_why::{Heard, KeptFiles, KeptSource, NotedAcceptor, NotedSink, ToldFiles, name_in, tell};
 use std::alloc::Global;
 use std::env::Env;
 use std::io::{self, Eprint, Read, Write};
@@ -86,7 +85,7 @@ pub(crate) fn outside_of<S, K, F, C, V, W, A, D, N, J, P>(
     }
 }
 
-/// Does what the words ask for, and answers the status. It is `run` of `bsc_commands`, with nothing before it and nothing behind.
+/// Does what the words ask for, and answers the status. The asker may ask for the stop of a hub. It is `run` of `bsc_commands`, with nothing before it and nothing behind.
 /// What that promises of the objects outside it promises here, at any types. `main` needs the status alone: at the types of the
 /// machine these promises would be more than a check of `main` can hold.
 pub(crate) fn run_outside<
@@ -103,17 +102,19 @@ pub(crate) fn run_outside<
     N: Sink + Drop,
     J: Journals<N>,
     P: Spawner<SessionJob<L, C, N>>,
+    Q: StopAsker,
 >(
     rt: &R,
     alloc: Global,
     read: &ReadWords<'_>,
     outside: &mut Outside<S, K, F, C, V, W, A, D, N, J, P>,
+    asker: &mut Q,
 ) -> u8
     requires can { P.can_start outside.old.parts.spawner }
     requires kept { outside.old.place.kept.hub ≡ None }
     requires own { outside.old.place.own ≡ None }
 {
-    run(rt, alloc, read, outside)
+    run(rt, alloc, read, outside, asker)
 }
 
 /// Says on standard error why a run ended with this status, where that is a fault, by what was heard of the objects outside.

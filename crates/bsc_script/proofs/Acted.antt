@@ -1,4 +1,5 @@
 -- What a line comes to, by what its call comes to.
+-- It serves clauses of functions of `script_hub`.
 use Rattle.std.proofs.Common.{◌≡◌, ℕ, List, [], ◌++◌, Option, Some, None, Result, Ok, Err, option_map, refl, ap, sym, ◌∙◌, subst, append-nil}
 use Rattle.std.specs.Prelude.{⊤}
 use Rattle.bsc_player.specs.declared.language.LineFault.{LineFault}
@@ -18,16 +19,19 @@ pub rebased : (n : ScriptHub) (b cs : List ℕ) (o : ScriptOutcome) → CarriesO
 rebased n b cs o h = record { stands = h.stands; settled = h.settled; text = sym (append-nil b) ∙ ap (λ (l : List ℕ). b ++ l) h.text }
 
 -- A name that isn't open is refused.
-pub unknown_acts : (r : Result Due LineFault) (e f : LineFault) (n : ScriptHub) (b a : List ℕ) (g : Peer → ScriptOutcome) (o : Option Peer) → r ≡ Err e → e ≡ f → f ≡ Refused → o ≡ None → ActsTo r n b a (option_map g o)
+pub unknown_acts : (r : Result Due LineFault) (e f : LineFault) (n : ScriptHub) (b a : List ℕ) (g : Peer → ScriptOutcome) (o : Option Peer) → r ≡ Err e → e ≡ f → f ≡ Refused → o ≡ None
+    → ActsTo r n b a (option_map g o)
 unknown_acts r e f n b a g o is same refused none =
     subst (λ (q : Result Due LineFault). ActsTo q n b a (option_map g o)) (sym (is ∙ ap Err (same ∙ refused))) (ap (option_map g) none)
 
 -- What is shown of the line that was matched is shown of the line.
-pub by_line : (r : Result Due LineFault) (n : ScriptHub) (b a : List ℕ) (s : State) (line as_found : Line) → line ≡ as_found → ActsTo r n b a (line_outcome s as_found) → ActsTo r n b a (line_outcome s line)
+pub by_line : (r : Result Due LineFault) (n : ScriptHub) (b a : List ℕ) (s : State) (line as_found : Line) → line ≡ as_found → ActsTo r n b a (line_outcome s as_found)
+    → ActsTo r n b a (line_outcome s line)
 by_line r n b a s line as_found is h = subst (λ l. ActsTo r n b a (line_outcome s l)) (sym is) h
 
 -- What is shown of the peer that was found is shown of the name.
-pub by_peer : (r : Result Due LineFault) (n : ScriptHub) (b a : List ℕ) (f : Peer → ScriptOutcome) (o : Option Peer) (k : Peer) → o ≡ Some k → ActsTo r n b a (Some (f k)) → ActsTo r n b a (option_map f o)
+pub by_peer : (r : Result Due LineFault) (n : ScriptHub) (b a : List ℕ) (f : Peer → ScriptOutcome) (o : Option Peer) (k : Peer) → o ≡ Some k → ActsTo r n b a (Some (f k))
+    → ActsTo r n b a (option_map f o)
 by_peer r n b a f o k is h = subst (λ p. ActsTo r n b a (option_map f p)) (sym is) h
 
 -- ---- the whole line
@@ -51,6 +55,7 @@ unfolding run_line
 fault_runs Refused t n s line b a c d h = ap (option_map emptied) h
 fault_runs NoMemory t n s line b a c d h = tt
 
-pub runs_fault : (r : Result ⊤ LineFault) (e f : LineFault) (t n : ScriptHub) (s : State) (line : Line) (b a c d : List ℕ) → r ≡ Err e → e ≡ f → ActsTo (Err f) t b a (line_outcome s line) → RunsTo r n c d (run_line s line)
+pub runs_fault : (r : Result ⊤ LineFault) (e f : LineFault) (t n : ScriptHub) (s : State) (line : Line) (b a c d : List ℕ) → r ≡ Err e → e ≡ f → ActsTo (Err f) t b a (line_outcome s line)
+    → RunsTo r n c d (run_line s line)
 runs_fault r e f t n s line b a c d is same h =
     subst (λ (q : Result ⊤ LineFault). RunsTo q n c d (run_line s line)) (sym (is ∙ ap Err same)) (fault_runs f t n s line b a c d h)

@@ -1,5 +1,7 @@
 -- How what is carried out goes together: the lines of one thing stand before those of the next.
-use Rattle.std.proofs.Common.{◌≡◌, ℕ, suc, Bool, true, false, List, [], ◌∷◌, ◌++◌, flat_map, fold, length, set, take, drop, remove, filter, not, slice_get, Option, Some, None, refl, ap, sym, ◌∙◌, subst, append_assoc, append-nil, true≢false}
+-- It serves clauses of functions of `emptying` and `script_hub`.
+use Rattle.std.proofs.Common.{◌≡◌, ℕ, suc, Bool, true, false, List, [], ◌∷◌, ◌++◌, flat_map, fold, length, set, take, drop, remove, filter, not, slice_get, Option, Some, None}
+use Rattle.std.proofs.Common.{refl, ap, sym, ◌∙◌, subst, append_assoc, append-nil, true≢false}
 use Rattle.bsc_history.specs.Laws.{Apart}
 use Rattle.bsc_accept.specs.declared.step.Step.{Step}
 use Rattle.bsc_accept.specs.declared.step.Step.TheVariants.{Ask, Put, PutClose, Up, Close, Nothing}
@@ -31,7 +33,8 @@ line_carried n before mid after cs l o put h = record {
 }
 
 -- some lines are written first
-pub lines_carried : (n : ScriptHub) (before mid after cs : List ℕ) (ls : List Said) (o : ScriptOutcome) → mid ≡ before ++ text_of ls → CarriesOut n mid after cs o → CarriesOut n before after cs (record { state = o.state; said = ls ++ o.said })
+pub lines_carried : (n : ScriptHub) (before mid after cs : List ℕ) (ls : List Said) (o : ScriptOutcome) → mid ≡ before ++ text_of ls → CarriesOut n mid after cs o
+    → CarriesOut n before after cs (record { state = o.state; said = ls ++ o.said })
 lines_carried n before mid after cs ls o put h = record {
   stands = h.stands;
   settled = h.settled;
@@ -39,7 +42,8 @@ lines_carried n before mid after cs ls o put h = record {
 }
 
 -- one thing, and then another
-pub both_carried : (t n : ScriptHub) (before mid after cs ds : List ℕ) (o : ScriptOutcome) (next : State → ScriptOutcome) → CarriesOut t before mid cs o → CarriesOut n mid after ds (next o.state) → CarriesOut n before after ds (and_then o next)
+pub both_carried : (t n : ScriptHub) (before mid after cs ds : List ℕ) (o : ScriptOutcome) (next : State → ScriptOutcome) → CarriesOut t before mid cs o
+    → CarriesOut n mid after ds (next o.state) → CarriesOut n before after ds (and_then o next)
 both_carried t n before mid after cs ds o next h g = lines_carried n before mid after ds o.said (next o.state) h.text g
 
 -- ---- who stands at which place after a step
@@ -67,5 +71,6 @@ other_peers s k (Close x) c = absurd (true≢false c)
 other_peers s k Nothing c = refl
 
 -- a line of a peer is written first
-pub said_carried : (n : ScriptHub) (before mid after cs name : List ℕ) (k : Peer) (words : List ℕ) (o : ScriptOutcome) → mid ≡ before ++ line_text (says name words) → name ≡ k.name → CarriesOut n mid after cs o → CarriesOut n before after cs (writes (says k.name words) o)
+pub said_carried : (n : ScriptHub) (before mid after cs name : List ℕ) (k : Peer) (words : List ℕ) (o : ScriptOutcome) → mid ≡ before ++ line_text (says name words) → name ≡ k.name
+    → CarriesOut n mid after cs o → CarriesOut n before after cs (writes (says k.name words) o)
 said_carried n before mid after cs name k words o put same h = line_carried n before mid after cs (says k.name words) o (put ∙ ap (λ (m : List ℕ). before ++ line_text (says m words)) same) h

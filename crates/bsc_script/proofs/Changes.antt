@@ -1,4 +1,5 @@
 -- A hub of which one open name is changed.
+-- It serves clauses of functions of `script_hub`.
 use Rattle.std.proofs.Common.{◌≡◌, ℕ, zero, suc, ◌<◌, Bool, List, [], ◌∷◌, ◌++◌, map, set, take, drop, find, slice_get, Option, Some, None, is_some, Vec, Global, refl, ap, sym, ◌∙◌, subst}
 use Rattle.std.specs.List.{AllByRecursion}
 use Rattle.std.specs.Ordering.{nat_cmp}
@@ -194,7 +195,8 @@ pub told_at : (t n : ScriptHub) (s : State) (at : ℕ) (cs : List ℕ) (k : Peer
     → n.core ≡ t.core → n.about ≡ t.about → n.clock ≡ t.clock → n.names ≡ t.names → n.peers ≡ with_value_at t.peers at (record x.1 { machine = m })
     → StandsAt n at cs (with_peer (told e k) s) (told e k) × (answer ≡ step_of s k e) × AcceptingStands m (start_at s.about k) (k.events ++ e ∷ [])
 told_at t n s at cs k x e m answer h was answers core about clock names new =
-    let r = told_stands t n s at k (kept x) e m answer h.stands h.here (get-map kept t.peers.entries at x was) answers core about clock names (kept_with t n at x (record x.1 { machine = m }) was new) in
+    let r = told_stands t n s at k (kept x) e m answer h.stands h.here (get-map kept t.peers.entries at x was) answers core about clock names
+    (kept_with t n at x (record x.1 { machine = m }) was new) in
     (at_changed t n s at cs k (told e k) h refl r.0, r.1, r.2)
 
 -- Some peer stands at each place that there is.
@@ -218,5 +220,8 @@ pub told_some : (t n : ScriptHub) (at : ℕ) (x : Vec ℕ Global × KeptPeer) (e
 told_some t n at x e m answer some was answers core about clock names new =
     let s = some.0 in
     let h : ScriptStands t s = some.1 in
-    let k = some_at t s at x h was in
-    (with_peer (told e k.0) s, (told_stands t n s at k.0 (kept x) e m answer h k.1 (get-map kept t.peers.entries at x was) answers core about clock names (kept_with t n at x (record x.1 { machine = m }) was new)).0)
+    let k = some_at t s at x h was in (
+      with_peer (told e k.0) s,
+      (told_stands t n s at k.0 (kept x) e m answer h k.1 (get-map kept t.peers.entries at x was) answers core about clock names
+          (kept_with t n at x (record x.1 { machine = m }) was new)).0,
+    )

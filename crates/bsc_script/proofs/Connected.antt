@@ -1,4 +1,5 @@
 -- A connect is carried out: what the hub of a script stands for after it.
+-- It serves the clauses of `connect`.
 use Rattle.std.proofs.Common.{◌≡◌, ℕ, suc, Bool, true, false, cond, List, [], ◌∷◌, ◌++◌, map, set, take, drop, slice_get, Option, Some, None, refl, ap, sym, ◌∙◌, subst}
 use Rattle.std.specs.List.{AllByRecursion}
 use Rattle.std.specs.Ordering.{nat_cmp}
@@ -73,7 +74,8 @@ tells_same s at k i e apart here name after =
     let j = told e i in
     let one : (with_peer i s).peers ≡ set s.peers at i = changed s.peers at k i apart here name in
     let there : slice_get (with_peer i s).peers at ≡ Some i = ap (λ l. slice_get l at) one ∙ get-set s.peers at k i here in
-    let twice : (with_peer j (with_peer i s)).peers ≡ (with_peer j s).peers = changed (with_peer i s).peers at i j after there refl ∙ ap (λ l. set l at j) one ∙ set-twice s.peers at i j ∙ sym (changed s.peers at k j apart here name) in
+    let twice : (with_peer j (with_peer i s)).peers ≡ (with_peer j s).peers = changed (with_peer i s).peers at i j after there refl ∙ ap (λ l. set l at j) one ∙ set-twice s.peers at i j
+    ∙ sym (changed s.peers at k j apart here name) in
     ap (λ (ps : List Peer). does (record s { peers = ps }) j (step_of s i e)) twice
 
 -- ---- a join
@@ -114,8 +116,10 @@ module _ (t u v : ScriptHub) (at : ℕ) (s : State) (k : Peer) (who : Identity) 
       record {
         stands = joined_stands t u v at s k who c replaced w j.free j.rest j.joins j.seat;
         here = ap (λ l. slice_get l at) is_set ∙ get-set s.peers at k i w.here;
-        before = subst (λ l. AllByRecursion P (take at l)) (sym is_set) (subst (AllByRecursion P) (sym (take-set s.peers at i)) (all_settled cs s.about s.history entry (take at s.peers) changes (all-take (Owns s.history) s.peers at own) w.before));
-        behind = subst (λ l. AllByRecursion P (drop (suc at) l)) (sym is_set) (subst (AllByRecursion P) (sym (drop-set s.peers at i)) (all_settled cs s.about s.history entry (drop (suc at) s.peers) changes (all-drop (Owns s.history) s.peers (suc at) own) w.behind));
+        before = subst (λ l. AllByRecursion P (take at l)) (sym is_set) (subst (AllByRecursion P) (sym (take-set s.peers at i))
+            (all_settled cs s.about s.history entry (take at s.peers) changes (all-take (Owns s.history) s.peers at own) w.before));
+        behind = subst (λ l. AllByRecursion P (drop (suc at) l)) (sym is_set) (subst (AllByRecursion P) (sym (drop-set s.peers at i))
+            (all_settled cs s.about s.history entry (drop (suc at) s.peers) changes (all-drop (Owns s.history) s.peers (suc at) own) w.behind));
         order = order_of replaced;
       }
 
@@ -131,25 +135,30 @@ module _ (t u v : ScriptHub) (at : ℕ) (s : State) (k : Peer) (who : Identity) 
   -- A connect that joins is carried out.
   pub connected : (r : ScriptHub) (cs before mid after name : List ℕ) → cs ≡ replaced_list replaced
       → ((ks : List Peer) (p : Peer) → IsIndexed u ks → slice_get ks at ≡ Some p → name ≡ p.name) → mid ≡ before ++ line_text (says name (joined_words c replaced))
-      → ((z : State) (p : Peer) (ds : List ℕ) (b : ℕ) → StandsAt v at ds z p → p.conn ≡ Some b → (p.held ≡ false → is_due z p b ≡ true → is_among b ds ≡ true) → CarriesOut r mid after ds (tells z p HasJoined)) → CarriesOut r before after cs (connects s k who)
+      → ((z : State) (p : Peer) (ds : List ℕ) (b : ℕ) → StandsAt v at ds z p → p.conn ≡ Some b → (p.held ≡ false → is_due z p b ≡ true → is_among b ds ≡ true)
+      → CarriesOut r mid after ds (tells z p HasJoined)) → CarriesOut r before after cs (connects s k who)
   connected r cs before mid after name is named wrote tell =
       let w = j.place in
       let h = w.stands in
       let i = joined_as c k in
       let z = after_it in
       let place : StandsAt v at cs (with_peer i z) i = subst (λ (l : List ℕ). StandsAt v at l (state_joined s k who c replaced) i) (sym is) seated_at in
-      let told_so : CarriesOut r mid after cs (tells (with_peer i z) i HasJoined) = tell (with_peer i z) i cs c place refl (λ held due. absurd (both_ways (due_after s.about z.history i c) not_due due)) in
+      let told_so : CarriesOut r mid after cs (tells (with_peer i z) i HasJoined) =
+      tell (with_peer i z) i cs c place refl (λ held due. absurd (both_ways (due_after s.about z.history i c) not_due due)) in
       let same : tells (with_peer i z) i HasJoined ≡ tells z i HasJoined = tells_same z at k i HasJoined h.apart w.here refl place.stands.apart in
       let own_name : name ≡ k.name = named s.peers k (indexed_same t u s.peers j.rest (indexed t s h)) w.here in
-      let line : CarriesOut r before after cs (gets_reply z k (JoinedReply c replaced)) = said_carried r before mid after cs name k (joined_words c replaced) (tells z i HasJoined) wrote own_name (subst (CarriesOut r mid after cs) same told_so) in
+      let line : CarriesOut r before after cs (gets_reply z k (JoinedReply c replaced)) =
+      said_carried r before mid after cs name k (joined_words c replaced) (tells z i HasJoined) wrote own_name (subst (CarriesOut r mid after cs) same told_so) in
       let exact : JoinedReply c replaced ≡ reply_in s (Connect who) = (lawful_at t u s entry h made).replied in
-      let done : CarriesOut r before after cs (gets_reply (called s (Connect who)) k (reply_in s (Connect who))) = subst (λ (q : Reply). CarriesOut r before after cs (gets_reply (record s { history = s.history ++ connect_entry 0 who q ∷ [] }) k q)) exact line in
+      let done : CarriesOut r before after cs (gets_reply (called s (Connect who)) k (reply_in s (Connect who))) =
+      subst (λ (q : Reply). CarriesOut r before after cs (gets_reply (record s { history = s.history ++ connect_entry 0 who q ∷ [] }) k q)) exact line in
       let fresh : is_worn s ≡ false = worn_is t s false h j.joins.enters.fresh in
       subst (λ (b : Bool). CarriesOut r before after cs (cond b (wears s k) (gets_reply (called s (Connect who)) k (reply_in s (Connect who))))) (sym fresh) done
 
 -- ---- a refusal
 
-module _ (t u : ScriptHub) (at : ℕ) (s : State) (k : Peer) (who : Identity) (refusal : Refusal) (w : StandsAt t at [] s k) (rest : KeepsElse t u) (x : ConnectsAs s.history 0 who (RefusedBy refusal) t.core u.core) where
+module _ (t u : ScriptHub) (at : ℕ) (s : State) (k : Peer) (who : Identity) (refusal : Refusal) (w : StandsAt t at [] s k) (rest : KeepsElse t u)
+    (x : ConnectsAs s.history 0 who (RefusedBy refusal) t.core u.core) where
   abbrev refusal_entry : Entry
   refusal_entry = connect_entry 0 who (RefusedReply refusal)
 
@@ -178,9 +187,11 @@ module _ (t u : ScriptHub) (at : ℕ) (s : State) (k : Peer) (who : Identity) (r
       let h = w.stands in
       let z : State = record s { history = s.history ++ refusal_entry ∷ [] } in
       let own_name : name ≡ k.name = named s.peers k (indexed_same t u s.peers rest (indexed t s h)) w.here in
-      let line : CarriesOut r before after [] (gets_reply z k (RefusedReply refusal)) = said_carried r before mid after [] name k (refusal_words refusal) (tells z k (WasRefused refusal)) wrote own_name (tell z k [] refused_at) in
+      let line : CarriesOut r before after [] (gets_reply z k (RefusedReply refusal)) =
+      said_carried r before mid after [] name k (refusal_words refusal) (tells z k (WasRefused refusal)) wrote own_name (tell z k [] refused_at) in
       let exact : RefusedReply refusal ≡ reply_in s (Connect who) = (lawful_at t u s refusal_entry h unmade).replied in
-      let done : CarriesOut r before after [] (gets_reply (called s (Connect who)) k (reply_in s (Connect who))) = subst (λ (q : Reply). CarriesOut r before after [] (gets_reply (record s { history = s.history ++ connect_entry 0 who q ∷ [] }) k q)) exact line in
+      let done : CarriesOut r before after [] (gets_reply (called s (Connect who)) k (reply_in s (Connect who))) =
+      subst (λ (q : Reply). CarriesOut r before after [] (gets_reply (record s { history = s.history ++ connect_entry 0 who q ∷ [] }) k q)) exact line in
       subst (λ (b : Bool). CarriesOut r before after [] (cond b (wears s k) (gets_reply (called s (Connect who)) k (reply_in s (Connect who))))) (sym (worn_is t s false h x.1.fresh)) done
 
 -- A connect that is worn closes its peer.

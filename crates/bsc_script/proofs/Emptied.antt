@@ -1,5 +1,7 @@
 -- An outbox is emptied: what was taken from it is what entered.
-use Rattle.std.proofs.Common.{◌≡◌, ◌≢◌, ℕ, ◌+◌, set, find, slice_get, List, [], ◌∷◌, ◌++◌, length, map, drop, Option, Some, None, is_some, refl, ap, sym, ◌∙◌, subst, append-nil, append_assoc, length-append, arith}
+-- It serves the clauses of `write_at`, `write_frames` and `write_next`.
+use Rattle.std.proofs.Common.{◌≡◌, ◌≢◌, ℕ, ◌+◌, set, find, slice_get, List, [], ◌∷◌, ◌++◌, length, map, drop, Option, Some, None, is_some, refl, ap, sym, ◌∙◌, subst, append-nil}
+use Rattle.std.proofs.Common.{append_assoc, length-append, arith}
 use Rattle.std.specs.Ordering.{nat_cmp}
 use Rattle.std.specs.BTreeMap.{get}
 use Rattle.std.proofs.lemmas.List.{map-append}
@@ -85,8 +87,22 @@ none_left (Some e) away = absurd (away e refl)
 pub taken_nothing : (H : List Entry) (c : ℕ) (K : HubCore) (name before : List ℕ) → CoreStands K H → HasOutbox K c
     → (w : Writes H c K K name before before) × (length (taken_by w.new) ≡ length (taken_by w.old) + 0) × (empties_by w.new ≡ empties_by w.old)
 taken_nothing H c K name before s has =
-    let p = found_some (outbox_at K c) has in
-    (record { stands = s; about = refl; others = λ b other. refl; old = p.0; was = p.1; new = p.0; now = p.1; more = []; taken = sym (append-nil (taken_by p.0)); text = sym (append-nil before) }, omega arith, refl)
+    let p = found_some (outbox_at K c) has in (
+      record {
+        stands = s;
+        about = refl;
+        others = λ b other. refl;
+        old = p.0;
+        was = p.1;
+        new = p.0;
+        now = p.1;
+        more = [];
+        taken = sym (append-nil (taken_by p.0));
+        text = sym (append-nil before);
+      },
+      omega arith,
+      refl,
+    )
 
 -- some frames, and then one more
 pub one_more : (H : List Entry) (c n : ℕ) (K N M : HubCore) (name before mid after : List ℕ) (a : Writes H c K N name before mid)
@@ -109,7 +125,8 @@ one_more H c n K N M name before mid after a long empties t =
         taken = b.taken ∙ ap (λ (y : Outbox). taken_by y ++ b.more) same ∙ ap (λ (l : List (List ℕ)). l ++ b.more) a.taken ∙ append_assoc (taken_by a.old) a.more b.more;
         text = b.text ∙ ap (λ (l : List ℕ). l ++ text_of (frame_lines name b.more)) a.text
             ∙ append_assoc before (text_of (frame_lines name a.more)) (text_of (frame_lines name b.more))
-            ∙ ap (λ (l : List ℕ). before ++ l) (sym (ap text_of (map-append (λ (m : List ℕ). says name (out_words m)) a.more b.more) ∙ text-append (frame_lines name a.more) (frame_lines name b.more)));
+            ∙ ap (λ (l : List ℕ). before ++ l) (sym (ap text_of (map-append (λ (m : List ℕ). says name (out_words m)) a.more b.more)
+            ∙ text-append (frame_lines name a.more) (frame_lines name b.more)));
       },
       omega (arith, next, was, long),
       t.2 ∙ ap empties_by same ∙ empties,
@@ -202,7 +219,8 @@ module _ (t : ScriptHub) (at c : ℕ) (s : State) (k : Peer) (w : IsJoinedAt t a
       -- written and unwritten frames together are what entered
       together : k.frames ++ unwritten s k c ≡ sent s.about s.history c
       together =
-          let whole : sent s.about s.history c ≡ k.frames ++ h.writes.more = sym sends ∙ sym h.emptied.whole ∙ h.writes.taken ∙ ap (λ (f : List (List ℕ)). f ++ h.writes.more) (ap taken_by box ∙ mine.1.frames) in
+          let whole : sent s.about s.history c ≡ k.frames ++ h.writes.more = sym sends ∙ sym h.emptied.whole ∙ h.writes.taken
+          ∙ ap (λ (f : List (List ℕ)). f ++ h.writes.more) (ap taken_by box ∙ mine.1.frames) in
           ap (λ (y : List (List ℕ)). k.frames ++ drop (length k.frames) y) whole ∙ ap (λ (y : List (List ℕ)). k.frames ++ y) (drop_front k.frames h.writes.more) ∙ sym whole
 
       -- what is written leaves all else of the peer
@@ -215,8 +233,22 @@ module _ (t : ScriptHub) (at c : ℕ) (s : State) (k : Peer) (w : IsJoinedAt t a
         pub machine : AcceptingStands x.1.machine (start_at u.core.about j) j.events
 
       fits : (e : Option End) → Fits e (written_peer e (unwritten s k c) k)
-      fits None = record { name = refl; conn = refl; held = refl; frames = refl; empties = refl; machine = subst (λ (a : About). AcceptingStands x.1.machine (start_at a k) k.events) (sym h.writes.about) pair.machine }
-      fits (Some y) = record { name = refl; conn = refl; held = refl; frames = refl; empties = refl; machine = subst (λ (a : About). AcceptingStands x.1.machine (start_at a k) k.events) (sym h.writes.about) pair.machine }
+      fits None = record {
+        name = refl;
+        conn = refl;
+        held = refl;
+        frames = refl;
+        empties = refl;
+        machine = subst (λ (a : About). AcceptingStands x.1.machine (start_at a k) k.events) (sym h.writes.about) pair.machine;
+      }
+      fits (Some y) = record {
+        name = refl;
+        conn = refl;
+        held = refl;
+        frames = refl;
+        empties = refl;
+        machine = subst (λ (a : About). AcceptingStands x.1.machine (start_at a k) k.events) (sym h.writes.about) pair.machine;
+      }
 
       new_pair : IsPeer u.core s.history wrote x
       new_pair = record {
@@ -247,7 +279,8 @@ module _ (t : ScriptHub) (at c : ℕ) (s : State) (k : Peer) (w : IsJoinedAt t a
           let ns : map name_of ks ≡ map name_of s.peers = ap (map name_of) is_set ∙ map-set name_of s.peers at k wrote w.here f.name in
           let conns : map conn_of (set s.peers at wrote) ≡ map conn_of s.peers = map-set conn_of s.peers at k wrote w.here f.conn in
           let cs : map conn_of ks ≡ map conn_of s.peers = ap (map conn_of) is_set ∙ conns in
-          let rest : Pairs R s.peers (kept_in t) = Pairs-weaker (IsPeer t.core s.history) R s.peers (kept_in t) (λ q y m z. other_kept c t.core u.core s.history q y h.writes.about (λ d other. h.writes.others d (λ e. other (e ∙ own_conn))) z) g.peers in
+          let rest : Pairs R s.peers (kept_in t) = Pairs-weaker (IsPeer t.core s.history) R s.peers (kept_in t)
+          (λ q y m z. other_kept c t.core u.core s.history q y h.writes.about (λ d other. h.writes.others d (λ e. other (e ∙ own_conn))) z) g.peers in
           let all : Pairs Q (set s.peers at wrote) (kept_in t) = but_one Q c s.peers (kept_in t) at k wrote x g.conns rest w.here w.conn here new_pair in
           record {
             stands = record {

@@ -1,4 +1,5 @@
 -- The core made an entry: the hub stands for the state with it, and all are settled but for those whose outboxes it changed.
+-- It serves clauses of functions of `script_hub`.
 use Rattle.std.proofs.Common.{◌≡◌, ℕ, ◌==◌, Bool, true, false, not, ◌&&◌, ◌||◌, nat_le, List, [], ◌∷◌, ◌++◌, length, map, drop, Option, Some, None, is_some, refl, ap, sym, ◌∙◌, subst}
 use Rattle.std.specs.List.{AllByRecursion, list_any}
 use Rattle.std.specs.Ordering.{nat_cmp}
@@ -96,7 +97,8 @@ stands_same t u s rest core w = record {
   about = ap (λ (x : HubCore). x.about) core ∙ w.about;
   same_hub = rest.about ∙ w.same_hub;
   clock = rest.clock ∙ w.clock;
-  peers = subst (λ (x : HubCore). ArePeers x s.history s.peers (kept_in u)) (sym core) (subst (λ q. ArePeers t.core s.history s.peers (map (λ e. (e.0.items, e.1)) q.entries)) (sym rest.peers) w.peers);
+  peers = subst (λ (x : HubCore). ArePeers x s.history s.peers (kept_in u)) (sym core)
+      (subst (λ q. ArePeers t.core s.history s.peers (map (λ e. (e.0.items, e.1)) q.entries)) (sym rest.peers) w.peers);
   apart = w.apart;
   conns = w.conns;
   names = λ c. ap (λ q. get nat_cmp q c) rest.names ∙ w.names c;
@@ -152,7 +154,8 @@ looks_are t s call w = looks_by t.core s.history call (written_for s) w.core one
     P k = (c : ℕ) → k.conn ≡ Some c → taken_in (outbox_at t.core c) ≡ length k.frames
 
     all : AllByRecursion P s.peers
-    all = Pairs-all (IsPeer t.core s.history) P s.peers (kept_in t) (λ k x p c is. (let q = joined_peer t.core s.history k c x.1.joined p.joined is in ap taken_in q.there ∙ ap length q.frames)) w.peers
+    all = Pairs-all (IsPeer t.core s.history) P s.peers (kept_in t) (λ k x p c is.
+        (let q = joined_peer t.core s.history k c x.1.joined p.joined is in ap taken_in q.there ∙ ap length q.frames)) w.peers
 
     by : (b : ℕ) (o : Option Peer) → peer_on s b ≡ o → is_some o ≡ true → taken_in (outbox_at t.core b) ≡ written_in o
     by b None q g = cc
@@ -224,7 +227,8 @@ pub entered : (t u : ScriptHub) (s : State) (e : Entry) (call : Call) (cs before
     → ((b : ℕ) → leaves b e ≡ false) → connection_of e ≡ None → e ≡ entry_in s call → Changes cs s.about s.history e → SettledBut [] s → ascends cs ≡ true
     → after ≡ before ++ line_text line → CarriesOut u before after cs (writes line (quietly (called s call)))
 entered t u s e call cs before after line w m stay nobody exact changes own order wrote =
-    let settled : SettledBut cs (record s { history = s.history ++ e ∷ [] }) = record { peers = all_settled cs s.about s.history e s.peers changes (owners t.core s.history s.peers (kept_in t) w.peers) own.peers; order = order } in
+    let settled : SettledBut cs (record s { history = s.history ++ e ∷ [] }) =
+    record { peers = all_settled cs s.about s.history e s.peers changes (owners t.core s.history s.peers (kept_in t) w.peers) own.peers; order = order } in
     line_carried u before after after cs line (quietly (called s call)) wrote
     (quiet_carried u after cs (called s call)
     (subst (λ (y : Entry). ScriptStands u (record s { history = s.history ++ y ∷ [] })) exact (stands_more t u s e w m stay nobody))

@@ -1,4 +1,5 @@
 -- A hub line says a hub that may be made.
+-- It serves the clauses of `read_line`.
 use Rattle.std.proofs.Common.{◌≡◌, ℕ, ◌*◌, Bool, true, false, cond, not, nat_le, ◌&&◌, List, [], ◌∷◌, refl, subst, arith, codes, Option, Some, None}
 use Rattle.std.specs.Prelude.{IfOk, Result, Ok, Err}
 use Rattle.std.specs.Option.{option_map}
@@ -15,7 +16,8 @@ use Rattle.bsc_script.specs.declared.line.Line.TheVariants.{Nothing, Hub, Open, 
 use Rattle.bsc_text.specs.Lines.{same_octets}
 use Rattle.bsc_text.specs.Words.{words_of, begins_comment}
 use Rattle.bsc_text.specs.Grammar.{number_of, vmac_of_word, maximum_of_word, device_of_word, octets_of_words, is_name}
-use Rattle.bsc_script.specs.Lines.{lies_within, may_be_hub, hub_of, hub_line, hub_line_of_words, open_line_of_words, in_line, in_line_of_words, name_line_of_words, at_line_of_words, bare_line_of_words, hubs_line_of_words, other_line_of_words, calls_of_words, line_of_words, line_of}
+use Rattle.bsc_script.specs.Lines.{lies_within, may_be_hub, hub_of, hub_line, hub_line_of_words, open_line_of_words, in_line, in_line_of_words, name_line_of_words}
+use Rattle.bsc_script.specs.Lines.{at_line_of_words, bare_line_of_words, hubs_line_of_words, other_line_of_words, calls_of_words, line_of_words, line_of}
 use Rattle.bsc_script.specs.Hubs.{IsHub, IsFit}
 
 fit_hub : (v : Vmac) (u : DeviceId) (b n r o k : ℕ) → may_be_hub v b n r o k ≡ true → IsHub (hub_of v u b n r o k)
@@ -113,7 +115,9 @@ fit_hubs false false false ws line h = cc
 fit_hubs_words : (w : List ℕ) (ws : List (List ℕ)) (line : Line) → hubs_line_of_words w ws ≡ Some line → IsFit line
 fit_hubs_words w ws line h = fit_hubs (same_octets w (codes "at")) (same_octets w (codes "stop")) (same_octets w (codes "counts")) ws line h
 
-fit_other : (a b c d : Bool) (w : List ℕ) (ws : List (List ℕ)) (line : Line) → cond a (name_line_of_words Text ws) (cond b (name_line_of_words Drop ws) (cond c (name_line_of_words Hold ws) (cond d (name_line_of_words Free ws) (hubs_line_of_words w ws)))) ≡ Some line → IsFit line
+fit_other : (a b c d : Bool) (w : List ℕ) (ws : List (List ℕ)) (line : Line)
+    → cond a (name_line_of_words Text ws) (cond b (name_line_of_words Drop ws) (cond c (name_line_of_words Hold ws) (cond d (name_line_of_words Free ws) (hubs_line_of_words w ws))))
+    ≡ Some line → IsFit line
 fit_other true b c d w ws line h = fit_name Text (λ name. tt) ws line h
 fit_other false true c d w ws line h = fit_name Drop (λ name. tt) ws line h
 fit_other false false true d w ws line h = fit_name Hold (λ name. tt) ws line h
@@ -123,7 +127,8 @@ fit_other false false false false w ws line h = fit_hubs_words w ws line h
 fit_others : (w : List ℕ) (ws : List (List ℕ)) (line : Line) → other_line_of_words w ws ≡ Some line → IsFit line
 fit_others w ws line h = fit_other (same_octets w (codes "text")) (same_octets w (codes "drop")) (same_octets w (codes "hold")) (same_octets w (codes "free")) w ws line h
 
-fit_choice : (a b c d : Bool) (w : List ℕ) (ws : List (List ℕ)) (line : Line) → cond a (Some Nothing) (cond b (hub_line_of_words ws) (cond c (open_line_of_words ws) (cond d (in_line_of_words ws) (other_line_of_words w ws)))) ≡ Some line → IsFit line
+fit_choice : (a b c d : Bool) (w : List ℕ) (ws : List (List ℕ)) (line : Line)
+    → cond a (Some Nothing) (cond b (hub_line_of_words ws) (cond c (open_line_of_words ws) (cond d (in_line_of_words ws) (other_line_of_words w ws)))) ≡ Some line → IsFit line
 fit_choice true b c d w ws line h = (let e : Nothing ≡ line = cc in subst IsFit e tt)
 fit_choice false true c d w ws line h = fit_hub_words ws line h
 fit_choice false false true d w ws line h = fit_open_words ws line h

@@ -1,4 +1,5 @@
 -- A peer is held, or freed.
+-- It serves the clauses of `hold`.
 use Rattle.std.proofs.Common.{◌≡◌, ℕ, suc, Bool, true, List, [], ◌∷◌, take, drop, slice_get, Some, None, Vec, Global, true≢false, refl, sym, ◌∙◌, subst}
 use Rattle.std.specs.List.{AllByRecursion}
 use Rattle.std.proofs.lemmas.Bool.{eq-eqb, or_left}
@@ -41,7 +42,8 @@ held_carried t n s at k x held cs h here was order among core about clock names 
       behind = all_settled_more cs s.about s.history (drop (suc at) s.peers) (at_settled t at [] s k h.0 h.1 here).behind;
       order = order;
     } in
-    let stands : ScriptStands n (with_peer j s) = stands_changed t n s at k j (kept x) (x.0.items, record x.1 { held = held }) h.0 here refl refl core about clock names (get-map kept t.peers.entries at x was)
+    let stands : ScriptStands n (with_peer j s) = stands_changed t n s at k j (kept x) (x.0.items, record x.1 { held = held }) h.0 here refl refl core about clock names
+    (get-map kept t.peers.entries at x was)
     (kept_with t n at x (record x.1 { held = held }) was new) (held_peer t.core s.history k (kept x) held) in
     quiet_carried n [] cs (with_peer j s) stands
     (settled_at n at cs (with_peer j s) j (at_changed t n s at cs k j all refl stands) (held_settled cs s.about s.history k held among (settled_one at [] s k h.1 here)))

@@ -1,5 +1,7 @@
 -- A connection leaves, and its name is closed: what the others have stays as it was.
-use Rattle.std.proofs.Common.{true≢false, ◌≡◌, ◌≢◌, ℕ, ◌==◌, Bool, true, false, not, cond, ◌&&◌, ◌||◌, List, [], ◌∷◌, ◌++◌, length, map, drop, remove, filter, find, slice_get, Option, Some, None, is_some, option_map, MatchOption, is_eq, Vec, Global, refl, ap, sym, ◌∙◌, subst, append-nil}
+-- It serves the clauses of `end`.
+use Rattle.std.proofs.Common.{true≢false, ◌≡◌, ◌≢◌, ℕ, ◌==◌, Bool, true, false, not, cond, ◌&&◌, ◌||◌, List, [], ◌∷◌, ◌++◌, length, map, drop, remove, filter, find, slice_get}
+use Rattle.std.proofs.Common.{Option, Some, None, is_some, option_map, MatchOption, is_eq, Vec, Global, refl, ap, sym, ◌∙◌, subst, append-nil}
 use Rattle.std.specs.List.{AllByRecursion, list_any}
 use Rattle.std.specs.Option.{option_or}
 use Rattle.std.specs.Ordering.{nat_cmp}
@@ -168,11 +170,13 @@ left_stands t n s at k c g h here conn l entry about clock gone_name names kept_
     let gone : find (has_joined_as c) ps ≡ None = ap (find (has_joined_as c)) ks ∙ gone_conn s.peers at k c h.conns here conn in
     let found : (b : ℕ) → c ≢ b → find (has_joined_as b) ps ≡ peer_on s b = λ b other. ap (find (has_joined_as b)) ks
     ∙ find-remove (has_joined_as b) s.peers at k here (ap (is_one b) conn ∙ false_from_ne_true (c == b) (λ u. other (eqb-true c b u))) in
-    let removed : ArePeers t.core s.history ps (remove (kept_in t) at) = subst (λ l. ArePeers t.core s.history l (remove (kept_in t) at)) (sym ks) (Pairs-remove (IsPeer t.core s.history) s.peers (kept_in t) at h.peers) in
+    let removed : ArePeers t.core s.history ps (remove (kept_in t) at) = subst (λ l. ArePeers t.core s.history l (remove (kept_in t) at)) (sym ks)
+    (Pairs-remove (IsPeer t.core s.history) s.peers (kept_in t) at h.peers) in
     let others : ArePeers n.core (s.history ++ e ∷ []) ps (remove (kept_in t) at) =
     Pairs-weaker (IsPeer t.core s.history) (IsPeer n.core (s.history ++ e ∷ [])) ps (remove (kept_in t) at)
     (λ j x m p. left_peer t.core n.core s.history c (empties_by l.before) g j x (none_has c ps j gone m) l.about l.others p) removed in
-    let same : (b : ℕ) (u : Bool) → (c == b) ≡ u → get nat_cmp n.names b ≡ option_map name_of (find (has_joined_as b) ps) = λ b u. elim u as (λ u. (c == b) ≡ u → get nat_cmp n.names b ≡ option_map name_of (find (has_joined_as b) ps)) [
+    let same : (b : ℕ) (u : Bool) → (c == b) ≡ u → get nat_cmp n.names b ≡ option_map name_of (find (has_joined_as b) ps) =
+    λ b u. elim u as (λ u. (c == b) ≡ u → get nat_cmp n.names b ≡ option_map name_of (find (has_joined_as b) ps)) [
       | true ↦ λ f. (let is : c ≡ b = eqb-true c b f in subst (λ d. get nat_cmp n.names d ≡ option_map name_of (find (has_joined_as d) ps)) is (gone_name ∙ ap (option_map name_of) (sym gone)))
       | false ↦ λ f. (let other : c ≢ b = λ is. absurd (true≢false (sym (eq-eqb c b is) ∙ f)) in names b other ∙ h.names b ∙ ap (option_map name_of) (sym (found b other)))
     ] in

@@ -1,5 +1,7 @@
 -- Open names as a hub keeps them: where they stand, and what is kept of them.
-use Rattle.std.proofs.Common.{◌≡◌, ◌≢◌, inl, inr, ℕ, suc, ◌+◌, Bool, true, false, cond, List, [], ◌∷◌, length, map, find, position, slice_get, Option, Some, None, is_some, option_map, Vec, Global, refl, ap, sym, ◌∙◌}
+-- It serves clauses of functions of `script_hub`.
+use Rattle.std.proofs.Common.{◌≡◌, ◌≢◌, inl, inr, ℕ, suc, ◌+◌, Bool, true, false, cond, List, [], ◌∷◌, length, map, find, position, slice_get, Option, Some, None, is_some}
+use Rattle.std.proofs.Common.{option_map, Vec, Global, refl, ap, sym, ◌∙◌}
 use Rattle.std.specs.Ordering.{nat_cmp}
 use Rattle.std.specs.BTreeMap.{get}
 use Rattle.bsc_text.specs.Lines.{same_octets}
@@ -26,7 +28,8 @@ octets_sym a b = both_ways (same_octets a b) (same_octets b a) (λ h. name_same 
 
 -- ---- what is kept at a place
 
-pub name_kept : (t : ScriptHub) (ks : List Peer) (at : ℕ) (k : Peer) (x : Vec ℕ Global × KeptPeer) → IsIndexed t ks → slice_get ks at ≡ Some k → slice_get t.peers.entries at ≡ Some x → x.0.items ≡ k.name
+pub name_kept : (t : ScriptHub) (ks : List Peer) (at : ℕ) (k : Peer) (x : Vec ℕ Global × KeptPeer) → IsIndexed t ks → slice_get ks at ≡ Some k → slice_get t.peers.entries at ≡ Some x
+    → x.0.items ≡ k.name
 name_kept t ks at k x ix here was =
     let by_peers : slice_get (map name_of ks) at ≡ Some k.name = get-map name_of ks at k here in
     let by_kept : slice_get (map (λ e. e.0) (kept_in t)) at ≡ Some x.0.items = get-map (λ (e : List ℕ × KeptPeer). e.0) (kept_in t) at (kept x) (get-map kept t.peers.entries at x was) in
@@ -37,7 +40,8 @@ peer_kept t at x e was is = one_some e (kept x) (sym is ∙ get-map kept t.peers
 
 -- ---- the place of a name
 
-named_keys : (n : List ℕ) (ks : List Peer) (es : List (Vec ℕ Global × KeptPeer)) → map name_of ks ≡ map (λ e. e.0) (map kept es) → map (is_named n) ks ≡ map (λ (v : Vec ℕ Global). same_octets n v.items) (map (λ e. e.0) es)
+named_keys : (n : List ℕ) (ks : List Peer) (es : List (Vec ℕ Global × KeptPeer)) → map name_of ks ≡ map (λ e. e.0) (map kept es)
+    → map (is_named n) ks ≡ map (λ (v : Vec ℕ Global). same_octets n v.items) (map (λ e. e.0) es)
 named_keys n [] [] h = refl
 named_keys n [] (e ∷ es) h = cc
 named_keys n (k ∷ ks) [] h = cc

@@ -1,4 +1,5 @@
 -- What an answer unfolds to compute this crate's definitions on a literal script.
+-- It serves many crates above.
 use Rattle.std.specs.Prelude.{⊤}
 use Rattle.std.specs.Fmt.{digits}
 use Rattle.hex.specs.Hex.{encode_with, decode_pairs}

@@ -1,5 +1,7 @@
 -- A name opens.
-use Rattle.std.proofs.Common.{◌≡◌, ℕ, nat_lt, Bool, true, false, not, cond, ◌&&◌, List, [], ◌∷◌, ◌++◌, length, map, find, position, Option, Some, None, Ok, MatchOption, is_some, option_map, Vec, Global, true≢false, refl, ap, sym, ◌∙◌, subst}
+-- It serves the clauses of `may_open` and `open`.
+use Rattle.std.proofs.Common.{◌≡◌, ℕ, nat_lt, Bool, true, false, not, cond, ◌&&◌, List, [], ◌∷◌, ◌++◌, length, map, find, position, Option, Some, None, Ok, MatchOption, is_some}
+use Rattle.std.proofs.Common.{option_map, Vec, Global, true≢false, refl, ap, sym, ◌∙◌, subst}
 use Rattle.std.specs.Ordering.{nat_cmp}
 use Rattle.std.specs.BTreeMap.{get}
 use Rattle.indexmap.specs.IndexMap.{insert_entry}
@@ -93,7 +95,8 @@ opened t n s v m h closed machine core about clock names entries_so =
     let k : Peer = new_peer v.items s.clock in
     let p : KeptPeer = record { machine = m; held = false; joined = None } in
     let none : find (is_named v.items) s.peers ≡ None = nobody (find (is_named v.items) s.peers) closed in
-    let kept_so : kept_in n ≡ kept_in t ++ (v.items, p) ∷ [] = ap (map kept) (entries_so ∙ insert_new s.peers t.peers.entries v p (indexed t s h.0).names none) ∙ map-push kept t.peers.entries (v, p) in
+    let kept_so : kept_in n ≡ kept_in t ++ (v.items, p) ∷ [] = ap (map kept) (entries_so ∙ insert_new s.peers t.peers.entries v p (indexed t s h.0).names none)
+    ∙ map-push kept t.peers.entries (v, p) in
     let stands_machine : AcceptingStands m (start_at t.core.about k) [] =
     subst (λ (a : About). AcceptingStands m (record { own = a.hub; times = default_times; at = s.clock }) []) (h.0.same_hub ∙ sym h.0.about)
     (subst (λ (c : ℕ). AcceptingStands m (record { own = t.about.hub; times = default_times; at = c }) []) h.0.clock machine) in
@@ -124,7 +127,8 @@ opened t n s v m h closed machine core about clock names entries_so =
     one a b e = cc
 
 -- What may open does, and what may not is refused.
-pub may_open_so : (s : State) (n : List ℕ) → (not (is_open s n) && nat_lt (length s.peers) most_names) ≡ true → (is_open s n ≡ false) × (opens s n ≡ Some (quietly (with_opened (new_peer n s.clock) s)))
+pub may_open_so : (s : State) (n : List ℕ) → (not (is_open s n) && nat_lt (length s.peers) most_names) ≡ true → (is_open s n ≡ false)
+    × (opens s n ≡ Some (quietly (with_opened (new_peer n s.clock) s)))
 may_open_so s n h = (closed (is_open s n) (nat_lt (length s.peers) most_names) h, ap (λ b. cond b (Some (quietly (with_opened (new_peer n s.clock) s))) None) h)
   where
     closed : (a b : Bool) → (not a && b) ≡ true → a ≡ false
@@ -132,5 +136,6 @@ may_open_so s n h = (closed (is_open s n) (nat_lt (length s.peers) most_names) h
     closed false b e = refl
 
 -- A name that may open opens.
-pub opens_to : (n : ScriptHub) (s : State) (given_name name : List ℕ) → given_name ≡ name → opens s name ≡ Some (quietly (with_opened (new_peer name s.clock) s)) → CarriesOut n [] [] [] (quietly (with_opened (new_peer given_name s.clock) s)) → RunsTo (Ok tt) n [] [] (opens s name)
+pub opens_to : (n : ScriptHub) (s : State) (given_name name : List ℕ) → given_name ≡ name → opens s name ≡ Some (quietly (with_opened (new_peer name s.clock) s))
+    → CarriesOut n [] [] [] (quietly (with_opened (new_peer given_name s.clock) s)) → RunsTo (Ok tt) n [] [] (opens s name)
 opens_to n s given_name name same may h = subst (λ o. RunsTo (Ok tt) n [] [] o) (sym may) (subst (λ (m : List ℕ). CarriesOut n [] [] [] (quietly (with_opened (new_peer m s.clock) s))) same h)

@@ -1,5 +1,7 @@
 -- An outbox is emptied, and who had it is settled; or it isn't to be.
-use Rattle.std.proofs.Common.{◌≡◌, ◌≢◌, ℕ, zero, suc, ◌+◌, ◌-◌, ◌==◌, ◌<◌, nat_lt, Bool, true, false, not, cond, ◌&&◌, ◌||◌, List, [], ◌∷◌, ◌++◌, length, take, drop, slice_get, Some, None, MatchOption, is_some, true≢false, refl, ap, sym, ◌∙◌, subst, arith, length-append, length-drop, drop_of_length-le}
+-- It serves the clauses of `empty_at`, `empty_one` and `is_to_empty`.
+use Rattle.std.proofs.Common.{◌≡◌, ◌≢◌, ℕ, zero, suc, ◌+◌, ◌-◌, ◌==◌, ◌<◌, nat_lt, Bool, true, false, not, cond, ◌&&◌, ◌||◌, List, [], ◌∷◌, ◌++◌, length, take, drop, slice_get}
+use Rattle.std.proofs.Common.{Some, None, MatchOption, is_some, true≢false, refl, ap, sym, ◌∙◌, subst, arith, length-append, length-drop, drop_of_length-le}
 use Rattle.std.specs.List.{AllByRecursion, list_all}
 use Rattle.std.proofs.lemmas.Bool.{and_parts, false_from_ne_true, eqb-true}
 use Rattle.bsc_history.specs.declared.limits.About.{About}
@@ -44,7 +46,8 @@ use Rattle.bsc_script.proofs.Common.{connected_only}
 
 nothing_left : (whole front : List (List ℕ)) → drop (length (front ++ drop (length front) whole)) whole ≡ []
 nothing_left whole front =
-    let all : length (front ++ drop (length front) whole) ≡ length front + (length whole - length front) = length-append front (drop (length front) whole) ∙ ap (λ (n : ℕ). length front + n) (length-drop (length front) whole) in
+    let all : length (front ++ drop (length front) whole) ≡ length front + (length whole - length front) = length-append front (drop (length front) whole)
+    ∙ ap (λ (n : ℕ). length front + n) (length-drop (length front) whole) in
     drop_of_length-le whole (omega arith)
 
 -- A live connection whose frames are all written has nothing due.
@@ -74,7 +77,8 @@ live_emptied t n at c ds s k before after w r =
           let due = (and_parts (is_connected (phase k.events) && not k.held) (due_after s.about s.history j b) u).1 in
           absurd (true≢false (sym due ∙ subst (λ d. due_after s.about s.history j d ≡ false) same (not_due s.about s.history k c live))));
     } in
-    subst (λ o. CarriesOut n before after ds (record { state = (ends_as s (given_frames frames k) o).state; said = frame_lines k.name frames ++ (ends_as s (given_frames frames k) o).said })) (sym live)
+    subst (λ o. CarriesOut n before after ds (record { state = (ends_as s (given_frames frames k) o).state; said = frame_lines k.name frames ++ (ends_as s (given_frames frames k) o).said }))
+    (sym live)
     (lines_carried n before after after ds (frame_lines k.name frames) (quietly (with_peer j s)) r.text
     (quiet_carried n after ds (with_peer j s) r.stands (settled_at n at ds (with_peer j s) j place own)))
   where
@@ -124,7 +128,8 @@ ended_connected n at c ds s k ending t before after w r = λ e is. (
 
 -- What is kept of a peer says whether its outbox is to be emptied, with what its core says is due.
 pub emptied_by : (t : ScriptHub) (s : State) (at : ℕ) (k : Peer) (c : ℕ) (p : KeptPeer) (due b : Bool) → IsJoinedAt t at c s k → IsOpenPeer s k → KeepsAt t at (λ q. p ≡ q)
-    → ((H : List Entry) (x : Outbox) → CoreStands t.core H → outbox_at t.core c ≡ Some x → due ≡ has_due t.core H c x) → b ≡ (is_connected (phase_of p.machine) && not p.held && due) → b ≡ is_emptied s k c
+    → ((H : List Entry) (x : Outbox) → CoreStands t.core H → outbox_at t.core c ≡ Some x → due ≡ has_due t.core H c x) → b ≡ (is_connected (phase_of p.machine) && not p.held && due)
+    → b ≡ is_emptied s k c
 emptied_by t s at k c p due b w opened keeps says is =
     let h = w.stands in
     let e = partner_of (IsPeer t.core s.history) s.peers (kept_in t) at k h.peers w.here in
@@ -201,7 +206,8 @@ unopened t s c ds b h g none =
     let says = subst (λ o. MatchOption o ((x : Peer) → In x s.peers → has_joined_as c x ≡ false) (λ x. In x s.peers × (has_joined_as c x ≡ true))) none (find_says (has_joined_as c) s.peers) in
     subst (λ o. CarriesOut t b b ds (emptied_if s c o)) (sym none)
     (quiet_carried t b ds s h (record {
-      peers = all_from_In (IsSettledBut ds s.about s.history) s.peers (λ j m. settled_beside c ds s.about s.history j (λ e. true≢false (sym (conn_has c j e) ∙ says j m)) (In_from_all (IsSettledBut (c ∷ ds) s.about s.history) j s.peers g.peers m));
+      peers = all_from_In (IsSettledBut ds s.about s.history) s.peers (λ j m. settled_beside c ds s.about s.history j (λ e. true≢false (sym (conn_has c j e) ∙ says j m))
+          (In_from_all (IsSettledBut (c ∷ ds) s.about s.history) j s.peers g.peers m));
       order = (and_parts (list_all (nat_lt c) ds) (ascends ds) g.order).1;
     }))
 

@@ -1,5 +1,7 @@
 -- Lists whose elements belong together, one by one, and lists with one element put in place of another, or taken out.
-use Rattle.std.proofs.Common.{◌≡◌, ◌≢◌, inl, inr, ℕ, zero, suc, ◌+◌, nat_lt, Bool, true, false, not, cond, List, [], ◌∷◌, ◌++◌, length, map, set, take, drop, remove, find, position, slice_get, Option, Some, None, option_map, refl, ap, sym, ◌∙◌, subst, arith}
+-- It serves clauses of functions of `emptying` and `script_hub`.
+use Rattle.std.proofs.Common.{◌≡◌, ◌≢◌, inl, inr, ℕ, zero, suc, ◌+◌, nat_lt, Bool, true, false, not, cond, List, [], ◌∷◌, ◌++◌, length, map, set, take, drop, remove, find}
+use Rattle.std.proofs.Common.{position, slice_get, Option, Some, None, option_map, refl, ap, sym, ◌∙◌, subst, arith}
 use Rattle.std.specs.List.{AllByRecursion, prefix_len, position_or_len}
 use Rattle.bsc_history.specs.Laws.{Apart}
 use Rattle.bsc_history.proofs.Lists.{In, In_from_all}
@@ -213,13 +215,15 @@ position-gives {A} p (x ∷ xs) i h = by (p x) refl (λ n e. position-gives p xs
     by false f rec = later rec (position p xs) refl (sym (position-cons p x xs ∙ ap (λ (b : Bool). cond b (Some 0) (option_map (λ n. 1 + n) (position p xs))) f) ∙ h) f
 
 -- Of peers with connections that are apart, all but the one with c are paired, and the changed one is paired at its place.
-pub but_one : (Q : Peer → (List ℕ × KeptPeer) → Type 0) (c : ℕ) (ks : List Peer) (es : List (List ℕ × KeptPeer)) (at : ℕ) (k j : Peer) (e : List ℕ × KeptPeer) → ConnsApart ks → Pairs (λ p x. (p.conn ≡ Some c → ⊥) → Q p x) ks es → slice_get ks at ≡ Some k → k.conn ≡ Some c → slice_get es at ≡ Some e → Q j e → Pairs Q (set ks at j) es
+pub but_one : (Q : Peer → (List ℕ × KeptPeer) → Type 0) (c : ℕ) (ks : List Peer) (es : List (List ℕ × KeptPeer)) (at : ℕ) (k j : Peer) (e : List ℕ × KeptPeer) → ConnsApart ks
+    → Pairs (λ p x. (p.conn ≡ Some c → ⊥) → Q p x) ks es → slice_get ks at ≡ Some k → k.conn ≡ Some c → slice_get es at ≡ Some e → Q j e → Pairs Q (set ks at j) es
 but_one Q c [] es at k j e apart h g own there new = cc
 but_one Q c (p ∷ ks) [] at k j e apart h g own there new = absurd h
 but_one Q c (p ∷ ks) (x ∷ es) zero k j e apart h g own there new =
     (subst (Q j) (sym (same_some x e there)) new, rest ks es h.1 apart.0 (ap (λ (r : Peer). r.conn) (same_some p k g) ∙ own))
   where
-    rest : (js : List Peer) (xs : List (List ℕ × KeptPeer)) → Pairs (λ r y. (r.conn ≡ Some c → ⊥) → Q r y) js xs → AllByRecursion (λ (j : Peer). (d : ℕ) → p.conn ≡ Some d → j.conn ≡ Some d → ⊥) js → p.conn ≡ Some c → Pairs Q js xs
+    rest : (js : List Peer) (xs : List (List ℕ × KeptPeer)) → Pairs (λ r y. (r.conn ≡ Some c → ⊥) → Q r y) js xs
+        → AllByRecursion (λ (j : Peer). (d : ℕ) → p.conn ≡ Some d → j.conn ≡ Some d → ⊥) js → p.conn ≡ Some c → Pairs Q js xs
     rest [] [] f a s = tt
     rest [] (y ∷ xs) f a s = absurd f
     rest (j ∷ js) [] f a s = absurd f

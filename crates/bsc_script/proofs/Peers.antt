@@ -1,5 +1,7 @@
 -- Open names: of which no two have one name or one connection, and of which one is changed or taken out.
-use Rattle.std.proofs.Common.{◌≡◌, ◌≢◌, inl, inr, ℕ, zero, suc, Bool, true, false, not, cond, List, [], ◌∷◌, ◌++◌, map, set, remove, find, filter, slice_get, Option, Some, None, is_some, option_map, refl, ap, sym, ◌∙◌, subst}
+-- It serves clauses of functions of `emptying` and `script_hub`.
+use Rattle.std.proofs.Common.{◌≡◌, ◌≢◌, inl, inr, ℕ, zero, suc, Bool, true, false, not, cond, List, [], ◌∷◌, ◌++◌, map, set, remove, find, filter, slice_get, Option, Some, None}
+use Rattle.std.proofs.Common.{is_some, option_map, refl, ap, sym, ◌∙◌, subst}
 use Rattle.std.specs.List.{AllByRecursion}
 use Rattle.std.proofs.lemmas.Bool.{false_from_ne_true, eqb-true, eq-eqb}
 use Rattle.std.proofs.lemmas.Bool.Decides.{Decides-eqb}
@@ -159,7 +161,8 @@ gone_conn (p ∷ ks) zero k c h g e =
         ap (λ (b : Bool). cond b (Some j) (find (has_joined_as c) js)) (false_from_ne_true (has_joined_as c j) (λ t. a.0 c s (has_conn c j t)))
         ∙ none_found c js a.1 s
 gone_conn (p ∷ ks) (suc at) k c h g e =
-    let other : has_joined_as c p ≡ false = false_from_ne_true (has_joined_as c p) (λ t. In_from_all (λ (j : Peer). (d : ℕ) → p.conn ≡ Some d → j.conn ≡ Some d → ⊥) k ks h.0 (In-at ks at k g) c (has_conn c p t) e) in
+    let other : has_joined_as c p ≡ false = false_from_ne_true (has_joined_as c p)
+    (λ t. In_from_all (λ (j : Peer). (d : ℕ) → p.conn ≡ Some d → j.conn ≡ Some d → ⊥) k ks h.0 (In-at ks at k g) c (has_conn c p t) e) in
     ap (λ (b : Bool). cond b (Some p) (find (has_joined_as c) (remove ks at))) other ∙ gone_conn ks at k c h.1 g e
 
 -- ---- one more

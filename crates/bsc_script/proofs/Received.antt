@@ -1,4 +1,5 @@
 -- What the step of a machine at a message asks of its peer.
+-- It serves the clauses of `act` and `receive`.
 use Rattle.std.proofs.Common.{◌≡◌, ℕ, true, false, List, [], ◌∷◌, ◌++◌, set, slice_get, Some, Vec, Global, true≢false, refl, ap, sym, ◌∙◌, subst}
 use Rattle.bsc_octets.specs.declared.identity.Identity.{Identity}
 use Rattle.bsc_octets.specs.Addresses.{zero_vmac, broadcast}
@@ -52,10 +53,12 @@ asked_of n at m phase max now s k v es x y (Ask who) judged own is stands left w
 asked_of n at m phase max now s k v es x y Up judged own is stands left was kept_so =
     let a = carries_by (standing k.events) v is in
     (routed m phase max a.0 (subst (Judged m (HubPort phase) max) a.1 judged), settled_told [] s.about s.history k (Came now v) own refl refl (sym (ap is_open stands.stage) ∙ left))
-asked_of n at m phase max now s k v es x y (Put octets) judged own is stands left was kept_so = λ still. settled_told [] s.about s.history k (Came now v) own refl refl (sym (ap is_open stands.stage) ∙ left)
+asked_of n at m phase max now s k v es x y (Put octets) judged own is stands left was kept_so =
+    λ still. settled_told [] s.about s.history k (Came now v) own refl refl (sym (ap is_open stands.stage) ∙ left)
 asked_of n at m phase max now s k v es x y (PutClose octets c) judged own is stands left was kept_so = λ still. absurd (true≢false still)
 asked_of n at m phase max now s k v es x y (Close c) judged own is stands left was kept_so = λ still. absurd (true≢false still)
-asked_of n at m phase max now s k v es x y Nothing judged own is stands left was kept_so = λ still. settled_told [] s.about s.history k (Came now v) own refl refl (sym (ap is_open stands.stage) ∙ left)
+asked_of n at m phase max now s k v es x y Nothing judged own is stands left was kept_so =
+    λ still. settled_told [] s.about s.history k (Came now v) own refl refl (sym (ap is_open stands.stage) ∙ left)
 
 -- The machine of the peer at a place is told a message: its step is to be carried out.
 pub awaits : (t n : ScriptHub) (s : State) (at : ℕ) (m : List ℕ) (k : Peer) (x : Vec ℕ Global × KeptPeer) (v : Verdict) (machine : Accepting) (step : Step) (phase : Phase) (max : ℕ)
@@ -73,7 +76,8 @@ awaits t n s at m k x v machine step phase max h here was answers left judged co
     )
 
 -- The phase in which a message is judged is the one of all that the peer was told.
-pub judged_phase : (t : ScriptHub) (s : State) (at : ℕ) (k : Peer) (x : Vec ℕ Global × KeptPeer) (p : KeptPeer) (phase_result : Phase) → ScriptHolds t s → IsAt at k s → slice_get t.peers.entries at ≡ Some x → p ≡ x.1
+pub judged_phase : (t : ScriptHub) (s : State) (at : ℕ) (k : Peer) (x : Vec ℕ Global × KeptPeer) (p : KeptPeer) (phase_result : Phase) → ScriptHolds t s → IsAt at k s
+    → slice_get t.peers.entries at ≡ Some x → p ≡ x.1
     → ((i : Start) (E : List Event) → AcceptingStands p.machine i E → ¬ IsOver p.machine → phase_result ≡ phase E) → phase_result ≡ phase k.events
 judged_phase t s at k x p phase_result h here was is told_so =
     let m : AcceptingStands p.machine (start_at s.about k) k.events = subst (λ (q : KeptPeer). AcceptingStands q.machine (start_at s.about k) k.events) (sym is) (machine_at t s at k x h.0 here was) in
@@ -91,7 +95,8 @@ acts_other s k m (PutClose octets c) asks carries = refl
 acts_other s k m (Close c) asks carries = refl
 acts_other s k m Nothing asks carries = refl
 
-pub own_other : (t : ScriptHub) (at : ℕ) (m : List ℕ) (s : State) (k : Peer) (step : Step) → ((who : Identity) → step ≡ Ask who → ⊥) → (step ≡ Up → ⊥) → AsksOf t at m s k step → closes step ≡ false → IsSettledBut [] s.about s.history k
+pub own_other : (t : ScriptHub) (at : ℕ) (m : List ℕ) (s : State) (k : Peer) (step : Step) → ((who : Identity) → step ≡ Ask who → ⊥) → (step ≡ Up → ⊥) → AsksOf t at m s k step
+    → closes step ≡ false → IsSettledBut [] s.about s.history k
 own_other t at m s k (Ask who) asks carries h = absurd (asks who refl)
 own_other t at m s k Up asks carries h = absurd (carries refl)
 own_other t at m s k (Put octets) asks carries h = h

@@ -1,5 +1,7 @@
 -- Only outboxes that are due are emptied, so a round of these is a round of all, in the order of joining.
-use Rattle.std.proofs.Common.{◌≡◌, ◌≢◌, inl, inr, ℕ, zero, suc, ◌==◌, nat_lt, Bool, true, false, cond, ◌&&◌, ◌||◌, List, [], ◌∷◌, ◌++◌, map, fold, filter, find, flat_map, set, slice_get, Option, Some, None, is_some, option_to_list, true≢false, refl, ap, sym, ◌∙◌, subst, append-nil, arith}
+-- It serves the clauses of `empty_each`.
+use Rattle.std.proofs.Common.{◌≡◌, ◌≢◌, inl, inr, ℕ, zero, suc, ◌==◌, nat_lt, Bool, true, false, cond, ◌&&◌, ◌||◌, List, [], ◌∷◌, ◌++◌, map, fold, filter, find, flat_map, set}
+use Rattle.std.proofs.Common.{slice_get, Option, Some, None, is_some, option_to_list, true≢false, refl, ap, sym, ◌∙◌, subst, append-nil, arith}
 use Rattle.std.specs.List.{AllByRecursion, list_any, list_all}
 use Rattle.std.proofs.lemmas.Bool.{false_from_ne_true, and_parts, or_cases, or_left, or_right, eqb-true, eq-eqb}
 use Rattle.std.proofs.lemmas.Bool.Decides.{nat_tests}
@@ -60,7 +62,8 @@ other_done s at k step b apart here not_k = by (closes step) refl
     by false e = ap (find (has_joined_as b)) (other_peers s k step e)
 
 -- the End of its outbox is seen
-other_ended : (s : State) (at : ℕ) (k j : Peer) (o : Option End) (b : ℕ) → Apart name_of s.peers → slice_get s.peers at ≡ Some k → j.name ≡ k.name → has_joined_as b k ≡ false → has_joined_as b j ≡ false → peer_on (ends_as s j o).state b ≡ peer_on s b
+other_ended : (s : State) (at : ℕ) (k j : Peer) (o : Option End) (b : ℕ) → Apart name_of s.peers → slice_get s.peers at ≡ Some k → j.name ≡ k.name → has_joined_as b k ≡ false
+    → has_joined_as b j ≡ false → peer_on (ends_as s j o).state b ≡ peer_on s b
 other_ended s at k j None b apart here name not_k not_j = (other_changed s at k (found_empty j) b apart here name not_k not_j).0
 other_ended s at k j (Some ending) b apart here name not_k not_j =
     let u = with_peer j s in
@@ -102,9 +105,11 @@ only_one c (k ∷ ks) h = by (has_joined_as c k) refl (only_one c ks h.1)
   where
     nobody : (js : List Peer) → AllByRecursion (λ (j : Peer). (d : ℕ) → k.conn ≡ Some d → j.conn ≡ Some d → ⊥) js → k.conn ≡ Some c → filter (has_joined_as c) js ≡ []
     nobody [] a e = refl
-    nobody (j ∷ js) a e = ap (λ (b : Bool). cond b (j ∷ filter (has_joined_as c) js) (filter (has_joined_as c) js)) (false_from_ne_true (has_joined_as c j) (λ t. a.0 c e (has_conn c j t))) ∙ nobody js a.1 e
+    nobody (j ∷ js) a e = ap (λ (b : Bool). cond b (j ∷ filter (has_joined_as c) js) (filter (has_joined_as c) js)) (false_from_ne_true (has_joined_as c j) (λ t. a.0 c e (has_conn c j t)))
+        ∙ nobody js a.1 e
 
-    by : (b : Bool) → has_joined_as c k ≡ b → filter (has_joined_as c) ks ≡ option_to_list (find (has_joined_as c) ks) → cond (has_joined_as c k) (k ∷ filter (has_joined_as c) ks) (filter (has_joined_as c) ks) ≡ option_to_list (cond (has_joined_as c k) (Some k) (find (has_joined_as c) ks))
+    by : (b : Bool) → has_joined_as c k ≡ b → filter (has_joined_as c) ks ≡ option_to_list (find (has_joined_as c) ks)
+        → cond (has_joined_as c k) (k ∷ filter (has_joined_as c) ks) (filter (has_joined_as c) ks) ≡ option_to_list (cond (has_joined_as c k) (Some k) (find (has_joined_as c) ks))
     by true e later = rw e (ap (λ (l : List Peer). k ∷ l) (nobody ks h.0 (has_conn c k e)))
     by false e later = rw e later
 
@@ -112,11 +117,14 @@ mapped_piece : (n : ℕ) (o : Option Peer) → map (λ (k : Peer). record { conn
 mapped_piece n None = refl
 mapped_piece n (Some k) = refl
 
-in_pieces : (s : State) (xs : List Connection) → ConnsApart s.peers → flat_map (λ (x : Connection). map (λ (k : Peer). record { conn = x.number; peer = k }) (filter (has_joined_as x.number) s.peers)) xs ≡ pieces s (numbers xs)
+in_pieces : (s : State) (xs : List Connection) → ConnsApart s.peers → flat_map
+    (λ (x : Connection). map (λ (k : Peer). record { conn = x.number; peer = k }) (filter (has_joined_as x.number) s.peers)) xs ≡ pieces s (numbers xs)
 in_pieces s [] h = refl
 in_pieces s (x ∷ xs) h =
-    ap (λ (l : List Peer). map (λ (k : Peer). record { conn = x.number; peer = k }) l ++ flat_map (λ (y : Connection). map (λ (k : Peer). record { conn = y.number; peer = k }) (filter (has_joined_as y.number) s.peers)) xs) (only_one x.number s.peers h)
-    ∙ ap (λ (l : List OnConnection). l ++ flat_map (λ (y : Connection). map (λ (k : Peer). record { conn = y.number; peer = k }) (filter (has_joined_as y.number) s.peers)) xs) (mapped_piece x.number (peer_on s x.number))
+    ap (λ (l : List Peer). map (λ (k : Peer). record { conn = x.number; peer = k }) l
+    ++ flat_map (λ (y : Connection). map (λ (k : Peer). record { conn = y.number; peer = k }) (filter (has_joined_as y.number) s.peers)) xs) (only_one x.number s.peers h)
+    ∙ ap (λ (l : List OnConnection). l ++ flat_map (λ (y : Connection). map (λ (k : Peer). record { conn = y.number; peer = k }) (filter (has_joined_as y.number) s.peers)) xs)
+    (mapped_piece x.number (peer_on s x.number))
     ∙ ap (λ (l : List OnConnection). piece x.number (peer_on s x.number) ++ l) (in_pieces s xs h)
 
 -- ---- what a round does at one connection
@@ -129,12 +137,16 @@ at_due : (now : ScriptOutcome) (c : ℕ) (o : Option Peer) (rest : List OnConnec
 at_due now c None rest = ap (λ (u : ScriptOutcome). fold emptied_one u rest) (sym (quiet_after now))
 at_due now c (Some k) rest = ap (λ (u : ScriptOutcome). fold emptied_one u rest) (by (is_emptied now.state k c))
   where
-    by : (b : Bool) → cond b (and_then now (λ t. empties t k c)) now ≡ record { state = (cond b (empties now.state k c) (quietly now.state)).state; said = now.said ++ (cond b (empties now.state k c) (quietly now.state)).said }
+    by : (b : Bool) → cond b (and_then now (λ t. empties t k c)) now ≡ record {
+      state = (cond b (empties now.state k c) (quietly now.state)).state;
+      said = now.said ++ (cond b (empties now.state k c) (quietly now.state)).said;
+    }
     by true = refl
     by false = sym (quiet_after now)
 
 -- at one that isn't
-at_quiet : (now : ScriptOutcome) (n : ℕ) (o : Option Peer) (rest : List OnConnection) → ((k : Peer) → o ≡ Some k → is_emptied now.state k n ≡ false) → fold emptied_one now (piece n o ++ rest) ≡ fold emptied_one now rest
+at_quiet : (now : ScriptOutcome) (n : ℕ) (o : Option Peer) (rest : List OnConnection) → ((k : Peer) → o ≡ Some k → is_emptied now.state k n ≡ false)
+    → fold emptied_one now (piece n o ++ rest) ≡ fold emptied_one now rest
 at_quiet now n None rest h = refl
 at_quiet now n (Some k) rest h = ap (λ (b : Bool). fold emptied_one (cond b (and_then now (λ t. empties t k n)) now) rest) (h k refl)
 
@@ -258,7 +270,8 @@ round_goes s o now (n ∷ ns) c ds apart h r = by (nat_lt n c) (n == c) refl ref
       same = r.same ∙ at_quiet now n (peer_on s n) (pieces s ns) (λ k e. quiet_on now.state (c ∷ ds) n k h (below_first n c ds low h.order) (r.kept.0 ∙ e));
       kept = r.kept.1;
       order = parts.1;
-      whole = λ d among some. among_of d n ns (false_from_ne_true (n == d) (λ t. true≢false (sym among ∙ subst (λ x. is_among x (c ∷ ds) ≡ false) (eqb-true n d t) (below_first n c ds low h.order)))) (r.whole d among some);
+      whole = λ d among some. among_of d n ns (false_from_ne_true (n == d) (λ t. true≢false
+          (sym among ∙ subst (λ x. is_among x (c ∷ ds) ≡ false) (eqb-true n d t) (below_first n c ds low h.order)))) (r.whole d among some);
     }
 
     -- it is the one
@@ -276,7 +289,8 @@ round_goes s o now (n ∷ ns) c ds apart h r = by (nat_lt n c) (n == c) refl ref
               (r.whole d (or_right (c == d) (is_among d ds) among) (sym (ap is_some (other_emptied now.state c d apart (due_apart d among))) ∙ some));
         }
       where
-        still : (ms : List ℕ) → list_all (nat_lt c) ms ≡ true → AllByRecursion (λ (m : ℕ). peer_on now.state m ≡ peer_on s m) ms → AllByRecursion (λ (m : ℕ). peer_on (emptied_on now.state c).state m ≡ peer_on s m) ms
+        still : (ms : List ℕ) → list_all (nat_lt c) ms ≡ true → AllByRecursion (λ (m : ℕ). peer_on now.state m ≡ peer_on s m) ms
+            → AllByRecursion (λ (m : ℕ). peer_on (emptied_on now.state c).state m ≡ peer_on s m) ms
         still [] g k = tt
         still (m ∷ ms) g k =
             let q = and_parts (nat_lt c m) (list_all (nat_lt c) ms) g in
@@ -290,7 +304,8 @@ round_goes s o now (n ∷ ns) c ds apart h r = by (nat_lt n c) (n == c) refl ref
     behind high =
         let gone : is_among c (n ∷ ns) ≡ false = below_first c n ns high r.order in
         let none : peer_on now.state c ≡ None = closed (peer_on now.state c) refl gone in
-        let same : and_then now (λ u. emptied_on u c) ≡ now = ap (λ p. record { state = (emptied_if now.state c p).state; said = now.said ++ (emptied_if now.state c p).said }) none ∙ quiet_after now in
+        let same : and_then now (λ u. emptied_on u c) ≡ now = ap (λ p. record { state = (emptied_if now.state c p).state; said = now.said ++ (emptied_if now.state c p).said }) none
+        ∙ quiet_after now in
         record {
           same = r.same ∙ ap (λ (u : ScriptOutcome). fold emptied_one u (pieces s (n ∷ ns))) (sym same);
           kept = subst (λ (u : ScriptOutcome). AllByRecursion (λ (m : ℕ). peer_on u.state m ≡ peer_on s m) (n ∷ ns)) (sym same) r.kept;
@@ -337,7 +352,8 @@ goes_ends t base b ds o i is =
     subst (CarriesOut t base b []) (sym (round_ends o.state o j.now j.ns j.carried.settled j.round)) j.carried
 
 -- The next one may be emptied.
-pub goes_some : (t : ScriptHub) (base b ds : List ℕ) (c : ℕ) (rest : List ℕ) (o : ScriptOutcome) → RoundGoes t base b ds o → ds ≡ c ∷ rest → (s : State) × (es : List ℕ) × ScriptStands t s × SettledBut (c ∷ es) s
+pub goes_some : (t : ScriptHub) (base b ds : List ℕ) (c : ℕ) (rest : List ℕ) (o : ScriptOutcome) → RoundGoes t base b ds o → ds ≡ c ∷ rest → (s : State) × (es : List ℕ) × ScriptStands t s
+    × SettledBut (c ∷ es) s
 goes_some t base b ds c rest o i is =
     let j : RoundGoes t base b (c ∷ rest) o = subst (λ es. RoundGoes t base b es o) is i in
     (j.now.state, rest, j.carried.stands, j.carried.settled)

@@ -1,5 +1,7 @@
 -- A peer joins: what the hub of a script stands for then.
-use Rattle.std.proofs.Common.{◌≡◌, ◌⊎◌, inl, inr, ℕ, zero, suc, ◌<◌, ◌==◌, Bool, true, false, not, ◌||◌, cond, List, [], ◌∷◌, ◌++◌, length, map, set, find, filter, slice_get, Option, Some, None, is_some, option_map, option_to_list, refl, ap, sym, ◌∙◌, subst, arith, append-nil}
+-- It serves the clauses of `connect` and `seat`.
+use Rattle.std.proofs.Common.{◌≡◌, ◌⊎◌, inl, inr, ℕ, zero, suc, ◌<◌, ◌==◌, Bool, true, false, not, ◌||◌, cond, List, [], ◌∷◌, ◌++◌, length, map, set, find, filter, slice_get}
+use Rattle.std.proofs.Common.{Option, Some, None, is_some, option_map, option_to_list, refl, ap, sym, ◌∙◌, subst, arith, append-nil}
 use Rattle.std.specs.Global.{Vec}
 use Rattle.std.specs.List.{AllByRecursion, list_any}
 use Rattle.std.specs.Option.{option_or}
@@ -137,7 +139,16 @@ seated_peer t u H who c replaced k y j p free =
       name = p.name;
       machine = subst (λ (a : About). AcceptingStands y.1.machine (start_at a k) k.events) (sym j.enters.about) p.machine;
       held = p.held;
-      joined = (refl, record { joiner = join_owned H (connect_entry 0 who (JoinedReply c replaced)) z refl; outbox = j.after; there = j.now; frames = j.taken ∙ sym empty.0; empties = j.empties ∙ sym empty.1 });
+      joined = (
+        refl,
+        record {
+          joiner = join_owned H (connect_entry 0 who (JoinedReply c replaced)) z refl;
+          outbox = j.after;
+          there = j.now;
+          frames = j.taken ∙ sym empty.0;
+          empties = j.empties ∙ sym empty.1;
+        },
+      );
     }
 
 -- ---- the hub
@@ -148,7 +159,8 @@ any_joined : (H : List Entry) (e : Entry) (x : Connection) (c : ℕ) → connect
 any_joined H e x c is stay h =
     let p = λ (y : Connection). y.number == c in
     let left = filter (λ (y : Connection). not (leaves y.number e)) (unleft H) in
-    let split : (list_any p left || list_any p (x ∷ [])) ≡ true = sym (ap (list_any p) (unleft-more H e ∙ ap (λ (o : Option Connection). left ++ option_to_list o) is) ∙ list_any-append p left (x ∷ [])) ∙ h in
+    let split : (list_any p left || list_any p (x ∷ [])) ≡ true = sym (ap (list_any p) (unleft-more H e ∙ ap (λ (o : Option Connection). left ++ option_to_list o) is)
+    ∙ list_any-append p left (x ∷ [])) ∙ h in
     elim (or_cases (list_any p left) (list_any p (x ∷ [])) split) [
       | inl old ↦ inl (any_filtered p (λ (y : Connection). not (leaves y.number e)) (unleft H) old)
       | inr new ↦ elim (or_cases (x.number == c) false new) [ inl here ↦ inr (eqb-true x.number c here) | inr bad ↦ cc ]
@@ -175,11 +187,14 @@ joined_stands t u v at s k who c replaced w free rest j seat =
     let own = partner_of (IsPeer t.core s.history) s.peers (kept_in t) at k h.peers w.here in
     let y = own.0 in
     let there : slice_get (kept_in u) at ≡ Some y = ap (λ l. slice_get l at) same_kept ∙ own.1 in
-    let all : ArePeers u.core F (set s.peers at i) (set (kept_in t) at (y.0, record y.1 { joined = Some c })) = Pairs-set (IsPeer u.core F) s.peers (kept_in t) at i (y.0, record y.1 { joined = Some c }) (peers_more t u s e h made (λ b. refl)) (seated_peer t u s.history who c replaced k y j own.2 free) in
+    let all : ArePeers u.core F (set s.peers at i) (set (kept_in t) at (y.0, record y.1 { joined = Some c })) =
+    Pairs-set (IsPeer u.core F) s.peers (kept_in t) at i (y.0, record y.1 { joined = Some c }) (peers_more t u s e h made (λ b. refl))
+    (seated_peer t u s.history who c replaced k y j own.2 free) in
     let kept : kept_in v ≡ set (kept_in t) at (y.0, record y.1 { joined = Some c }) = seat.kept y there ∙ ap (λ l. set l at (y.0, record y.1 { joined = Some c })) same_kept in
     let nobody : Nobody c s.peers = owned_nobody s.history c s.peers fresh.joins (owners t.core s.history s.peers (kept_in t) h.peers) in
     let found : (b : ℕ) → find (has_joined_as b) (set s.peers at i) ≡ cond (c == b) (Some i) (peer_on s b) = λ b. (
-    let by : (o : Bool) → (c == b) ≡ o → find (has_joined_as b) (set s.peers at i) ≡ cond o (Some i) (peer_on s b) = λ o. elim o as (λ o. (c == b) ≡ o → find (has_joined_as b) (set s.peers at i) ≡ cond o (Some i) (peer_on s b)) [
+    let by : (o : Bool) → (c == b) ≡ o → find (has_joined_as b) (set s.peers at i) ≡ cond o (Some i) (peer_on s b) =
+    λ o. elim o as (λ o. (c == b) ≡ o → find (has_joined_as b) (set s.peers at i) ≡ cond o (Some i) (peer_on s b)) [
       | true ↦ λ q. find-new (has_joined_as b) s.peers at k i w.here q (subst (λ a. find (has_joined_as a) s.peers ≡ None) (eqb-true c b q) (nobody_found c s.peers nobody))
       | false ↦ λ q. find-other (has_joined_as b) s.peers at k i w.here (false_from_ne_true (has_joined_as b k) (λ f. (let bad : Some b ≡ None = sym (has_conn b k f) ∙ free in cc))) q
     ] in
@@ -190,7 +205,8 @@ joined_stands t u v at s k who c replaced w free rest j seat =
       about = ap (λ (q : HubCore). q.about) seat.same_core ∙ j.enters.about ∙ h.about;
       same_hub = seat.same_about ∙ rest.about ∙ h.same_hub;
       clock = seat.same_clock ∙ rest.clock ∙ h.clock;
-      peers = subst (λ (q : HubCore). ArePeers q F ks (kept_in v)) (sym seat.same_core) (subst (λ l. ArePeers u.core F l (kept_in v)) (sym is_set) (subst (ArePeers u.core F (set s.peers at i)) (sym kept) all));
+      peers = subst (λ (q : HubCore). ArePeers q F ks (kept_in v)) (sym seat.same_core)
+          (subst (λ l. ArePeers u.core F l (kept_in v)) (sym is_set) (subst (ArePeers u.core F (set s.peers at i)) (sym kept) all));
       apart = Apart-same name_of name_of s.peers ks (sym (ap (map name_of) is_set ∙ map-set name_of s.peers at k i w.here refl)) h.apart;
       conns = subst ConnsApart (sym is_set) (conns_set s.peers at c i h.conns nobody refl);
       names = λ b. seat.names y there b
@@ -221,7 +237,8 @@ seats t u at c v p name there core about clock written names is =
       same_core = core;
       same_about = about;
       same_clock = clock;
-      kept = λ e here. subst (λ (x : List ℕ × KeptPeer). kept_in u ≡ set (kept_in t) at (x.0, record x.1 { joined = Some c })) (whole e here) (ap (map kept) written ∙ kept-set t.peers.entries at v p (record p { joined = Some c }) there);
+      kept = λ e here. subst (λ (x : List ℕ × KeptPeer). kept_in u ≡ set (kept_in t) at (x.0, record x.1 { joined = Some c })) (whole e here)
+          (ap (map kept) written ∙ kept-set t.peers.entries at v p (record p { joined = Some c }) there);
       names = λ e here b. names b ∙ ap (λ (o : Bool). cond o (Some name) (get nat_cmp t.names b)) (eq_cmp c b)
           ∙ ap (λ (n : List ℕ). cond (c == b) (Some n) (get nat_cmp t.names b)) (is ∙ ap (λ (x : List ℕ × KeptPeer). x.0) (whole e here));
     }

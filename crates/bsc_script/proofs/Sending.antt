@@ -1,4 +1,5 @@
 -- A message is carried on.
+-- It serves the clauses of `empty_each` and `forward`.
 use Rattle.std.proofs.Common.{◌≡◌, ℕ, Bool, true, false, cond, List, [], ◌∷◌, ◌++◌, map, filter, slice_get, Option, Some, None, is_none, refl, ap, sym, ◌∙◌, subst}
 use Rattle.std.specs.Prelude.{nat_lt, ◌&&◌, not}
 use Rattle.std.specs.List.{list_all}
@@ -50,7 +51,8 @@ tests_mapped n r (x ∷ rows) = ap (λ (b : Bool). nat_lt r.connection.number x.
 
 rows_ascend : (rows : List Row) → in_order rises rows ≡ ascends (numbers (map connection rows))
 rows_ascend [] = refl
-rows_ascend (r ∷ rows) = ap (λ (b : Bool). b && in_order rises rows) (tests_mapped 0 r rows) ∙ ap (λ (b : Bool). list_all (nat_lt r.connection.number) (numbers (map connection rows)) && b) (rows_ascend rows)
+rows_ascend (r ∷ rows) = ap (λ (b : Bool). b && in_order rises rows) (tests_mapped 0 r rows)
+    ∙ ap (λ (b : Bool). list_all (nat_lt r.connection.number) (numbers (map connection rows)) && b) (rows_ascend rows)
 
 -- The numbers of connections that haven't left ascend.
 pub unleft_ascends : (t : ScriptHub) (s : State) → ScriptStands t s → ascends (numbers (unleft s.history)) ≡ true
@@ -78,7 +80,8 @@ ascends_kept q (x ∷ xs) h =
     ]
 
 live_ascends : (t : ScriptHub) (s : State) → ScriptStands t s → ascends (numbers (live s.history)) ≡ true
-live_ascends t s w = ap (λ (l : List Connection). ascends (numbers l)) (live_unended s.about s.history (legal_at t s w)) ∙ ascends_kept (λ (x : Connection). is_none (ended s.history x.number)) (unleft s.history) (unleft_ascends t s w)
+live_ascends t s w = ap (λ (l : List Connection). ascends (numbers l)) (live_unended s.about s.history (legal_at t s w))
+    ∙ ascends_kept (λ (x : Connection). is_none (ended s.history x.number)) (unleft s.history) (unleft_ascends t s w)
 
 one_ascends : (a : About) (H : List Entry) (m o : List ℕ) (looks : List Look) (x : Option Connection) → ascends (touched (unicast_reply a H m o looks x)) ≡ true
 one_ascends a H m o looks None = refl
@@ -98,7 +101,8 @@ forward_ascends a H sender m looks h =
       | true ↦ ascends_kept (λ c. not (is_too_long o c) && not (is_found_full a (sent a H c.number) looks c.number)) (meant H sender m) (ascends_kept (means m sender) (live H) h)
       | false ↦ one_ascends a H m o looks (holder H (destination m))
     ] in
-    let unended : (w : Option End) → ascends (touched (unless_ended w (body (is_broadcast m)))) ≡ true = λ w. elim w as (λ w. ascends (touched (unless_ended w (body (is_broadcast m)))) ≡ true) [ None ↦ sends (is_broadcast m) | Some k ↦ refl ] in
+    let unended : (w : Option End) → ascends (touched (unless_ended w (body (is_broadcast m)))) ≡ true =
+    λ w. elim w as (λ w. ascends (touched (unless_ended w (body (is_broadcast m)))) ≡ true) [ None ↦ sends (is_broadcast m) | Some k ↦ refl ] in
     elim (is_stopped H) as (λ b. ascends (touched (cond b Stopped (unless_ended (ended H sender) (body (is_broadcast m))))) ≡ true) [ true ↦ refl | false ↦ unended (ended H sender) ]
 
 -- ---- a forward
@@ -117,7 +121,8 @@ may_send t at c s k p w kept is = (s.history, w.stands.core, (joined_at t at s k
 -- Its message is carried on.
 pub forwarded : (t u : ScriptHub) (at c : ℕ) (s : State) (k : Peer) (p : KeptPeer) (m : List ℕ) (r : Reply) (cs before after name : List ℕ) → StandsAt t at [] s k
     → IsSettledBut [] s.about s.history k → KeepsAt t at (λ q. p ≡ q) → p.joined ≡ Some c → KeepsElse t u → Forwards s.history 0 c 0 m r t.core u.core → cs ≡ touched r
-    → ((ks : List Peer) (j : Peer) → IsIndexed u ks → slice_get ks at ≡ Some j → name ≡ j.name) → after ≡ before ++ line_text (says name (forward_words r)) → CarriesOut u before after cs (forwards_if s k k.conn m)
+    → ((ks : List Peer) (j : Peer) → IsIndexed u ks → slice_get ks at ≡ Some j → name ≡ j.name) → after ≡ before ++ line_text (says name (forward_words r))
+    → CarriesOut u before after cs (forwards_if s k k.conn m)
 forwarded t u at c s k p m r cs before after name w own kept is rest f same named wrote =
     let h = w.stands in
     let H = s.history in
@@ -131,16 +136,19 @@ forwarded t u at c s k p m r cs before after name w own kept is rest f same name
     let line : after ≡ before ++ line_text (says k.name (forward_words (reply_in s (Forward c m)))) =
     wrote ∙ ap (λ (n : List ℕ). before ++ line_text (says n (forward_words r))) own_name ∙ ap (λ (y : Entry). before ++ line_text (says k.name (forward_words y.reply))) exact in
     let o : ScriptOutcome = writes (says k.name (forward_words (reply_in s (Forward c m)))) (quietly (called s (Forward c m))) in
-    let done : CarriesOut u before after cs o = entered t u s e (Forward c m) cs before after (says k.name (forward_words (reply_in s (Forward c m)))) h made (λ b. refl) refl exact changes (settled_at t at [] s k w own) order line in
+    let done : CarriesOut u before after cs o = entered t u s e (Forward c m) cs before after (says k.name (forward_words (reply_in s (Forward c m)))) h made (λ b. refl) refl exact changes
+    (settled_at t at [] s k w own) order line in
     let fresh : is_worn s ≡ false = worn_is t s false h f.enters.fresh in
-    subst (λ (x : Option ℕ). CarriesOut u before after cs (forwards_if s k x m)) (sym (joined_at t at s k p (Some c) w kept is).0) (subst (λ (b : Bool). CarriesOut u before after cs (cond b (wears s k) o)) (sym fresh) done)
+    subst (λ (x : Option ℕ). CarriesOut u before after cs (forwards_if s k x m)) (sym (joined_at t at s k p (Some c) w kept is).0)
+    (subst (λ (b : Bool). CarriesOut u before after cs (cond b (wears s k) o)) (sym fresh) done)
 
 -- A forward that is worn closes its sender.
 pub forward_worn : (t u : ScriptHub) (at c : ℕ) (s : State) (k : Peer) (p : KeptPeer) (m before after : List ℕ) → StandsAt t at [] s k → KeepsAt t at (λ q. p ≡ q)
     → p.joined ≡ Some c → is_worn s ≡ true → CarriesOut u before after [] (wears s k) → CarriesOut u before after [] (forwards_if s k k.conn m)
 forward_worn t u at c s k p m before after w kept is worn h =
     let o : ScriptOutcome = writes (says k.name (forward_words (reply_in s (Forward c m)))) (quietly (called s (Forward c m))) in
-    subst (λ (x : Option ℕ). CarriesOut u before after [] (forwards_if s k x m)) (sym (joined_at t at s k p (Some c) w kept is).0) (subst (λ (b : Bool). CarriesOut u before after [] (cond b (wears s k) o)) (sym worn) h)
+    subst (λ (x : Option ℕ). CarriesOut u before after [] (forwards_if s k x m)) (sym (joined_at t at s k p (Some c) w kept is).0)
+    (subst (λ (b : Bool). CarriesOut u before after [] (cond b (wears s k) o)) (sym worn) h)
 
 -- Nothing is carried on of a peer that hasn't joined.
 pub sends_none : (t : ScriptHub) (at : ℕ) (s : State) (k : Peer) (p : KeptPeer) (m before : List ℕ) → StandsAt t at [] s k → IsSettledBut [] s.about s.history k

@@ -1,4 +1,5 @@
 -- What the machine of a peer is told leaves the peer settled, unless it closes.
+-- It serves clauses of functions of `script_hub`.
 use Rattle.std.proofs.Common.{◌≡◌, ◌≢◌, ℕ, Bool, true, false, not, cond, ◌&&◌, List, [], ◌∷◌, ◌++◌, Some, None, true≢false, refl, ap, sym, ◌∙◌, subst}
 use Rattle.std.proofs.lemmas.Bool.{and_parts}
 use Rattle.bsc_history.specs.declared.limits.About.{About}
@@ -71,7 +72,8 @@ awaits_not awaiting_request e = cc
 awaits_not connected e = cc
 awaits_not (disconnecting f) e = cc
 
-parted : (now : ℕ) (ending : End) → closes (ended_step ending) ≡ false → ending ≢ Left → (phase_named (moved connected (Ended now ending)) ≢ AwaitingRequest) × (is_connected (phase_named (moved connected (Ended now ending))) ≡ false)
+parted : (now : ℕ) (ending : End) → closes (ended_step ending) ≡ false → ending ≢ Left → (phase_named (moved connected (Ended now ending)) ≢ AwaitingRequest)
+    × (is_connected (phase_named (moved connected (Ended now ending))) ≡ false)
 parted now Left c l = absurd (l refl)
 parted now Replaced c l = ((λ e. cc), refl)
 parted now Full c l = absurd (true≢false c)
@@ -125,7 +127,8 @@ pub settled_ended : (cs : List ℕ) (a : About) (H : List Entry) (k : Peer) (c n
     → ending ≢ Left → closes (ended_step ending) ≡ false
     → is_open (stage (start_at a k) (k.events ++ Ended now ending ∷ [])) ≡ true → IsSettledBut cs a H (told (Ended now ending) k)
 settled_ended cs a H k c now ending conn at left open_step opened =
-    let next : phase (k.events ++ Ended now ending ∷ []) ≡ phase_named (moved connected (Ended now ending)) = ap phase_named (standing-more k.events (Ended now ending) ∙ ap (λ g. moved g (Ended now ending)) at) in
+    let next : phase (k.events ++ Ended now ending ∷ []) ≡ phase_named (moved connected (Ended now ending)) =
+    ap phase_named (standing-more k.events (Ended now ending) ∙ ap (λ g. moved g (Ended now ending)) at) in
     let p = parted now ending open_step left in
     record {
       ready = opened;

@@ -1,4 +1,5 @@
 -- What a line does where a hub may not be made yet.
+-- It serves the clauses of `begin` and `carry_out`.
 use Rattle.std.proofs.Common.{◌≡◌, ℕ, List, [], ◌∷◌, ◌++◌, Option, Some, None, Result, Ok, Err, option_map, ap, sym, ◌∙◌, subst, append-nil}
 use Rattle.std.specs.Prelude.{⊤}
 use Rattle.bsc_history.specs.declared.limits.About.{About}
@@ -20,7 +21,8 @@ pub begins_by : (o : Option ScriptHub) (b : List ℕ) (line as_found : Line) →
 begins_by o b line as_found is h = subst (λ l. LineStandsAs (HoldsIf o) b b (before_hub l)) (sym is) h
 
 -- What stands where there is no hub: nothing.
-pub begun_does : (o h : Option ScriptHub) (s : Option State) (line : Line) (b : List ℕ) → o ≡ None → HoldsIf o s → LineStandsAs (HoldsIf h) b b (before_hub line) → DoesLine h (Ok tt) b b (line_after s line)
+pub begun_does : (o h : Option ScriptHub) (s : Option State) (line : Line) (b : List ℕ) → o ≡ None → HoldsIf o s → LineStandsAs (HoldsIf h) b b (before_hub line)
+    → DoesLine h (Ok tt) b b (line_after s line)
 begun_does None h None line b e holds does = does
 begun_does None h (Some s) line b e holds does = absurd holds
 begun_does (Some t) h s line b e holds does = cc
@@ -39,7 +41,8 @@ runs_does (Ok u) n b a (Some o) h = ((h.stands, h.settled), h.text)
 runs_does (Err Refused) n b a o h = ap in_text h
 runs_does (Err NoMemory) n b a o h = tt
 
-pub made_does : (r : Result ⊤ LineFault) (o : Option ScriptHub) (t n : ScriptHub) (s : Option State) (line : Line) (b a : List ℕ) → o ≡ Some t → HoldsIf o s → ((u : State) → ScriptHolds t u → RunsTo r n b a (run_line u line)) → DoesLine (Some n) r b a (line_after s line)
+pub made_does : (r : Result ⊤ LineFault) (o : Option ScriptHub) (t n : ScriptHub) (s : Option State) (line : Line) (b a : List ℕ) → o ≡ Some t → HoldsIf o s
+    → ((u : State) → ScriptHolds t u → RunsTo r n b a (run_line u line)) → DoesLine (Some n) r b a (line_after s line)
 made_does r o t n s line b a is holds run = by s (subst (λ p. HoldsIf p s) is holds)
   where
     by : (s : Option State) → HoldsIf (Some t) s → DoesLine (Some n) r b a (line_after s line)

@@ -1,4 +1,5 @@
 -- The hub stops, and counts.
+-- It serves the clauses of `connections`, `count` and `stop`.
 use Rattle.std.proofs.Common.{◌≡◌, inl, inr, ℕ, ◌==◌, nat_lt, Bool, true, false, cond, List, [], ◌∷◌, ◌++◌, is_some, refl, ap, sym, ◌∙◌, subst}
 use Rattle.std.specs.Prelude.{codes, Result, Ok, Err, IfOk, OnOk}
 use Rattle.std.specs.List.{AllByRecursion, list_all, list_any}
@@ -50,7 +51,8 @@ sorted_ascends (k ∷ ks) h = and_from (list_all (nat_lt k) ks) (ascends ks) (al
 
 same_by : (q k : ℕ) → eq_by_cmp nat_cmp q k ≡ true → (k == q) ≡ true
 same_by q k h =
-    let by : (b : Bool) → is_eq (cond b Less (cond (q == k) Equal Greater)) ≡ true → (q == k) ≡ true = λ b. elim b as (λ b. is_eq (cond b Less (cond (q == k) Equal Greater)) ≡ true → (q == k) ≡ true) [
+    let by : (b : Bool) → is_eq (cond b Less (cond (q == k) Equal Greater)) ≡ true
+    → (q == k) ≡ true = λ b. elim b as (λ b. is_eq (cond b Less (cond (q == k) Equal Greater)) ≡ true → (q == k) ≡ true) [
       | true ↦ λ g. cc
       | false ↦ elim (q == k) as (λ e. is_eq (cond e Equal Greater) ≡ true → e ≡ true) [ true ↦ λ g. refl | false ↦ λ g. cc ]
     ] in
@@ -75,7 +77,8 @@ counted t u s k before after w rest x wrote =
     let made : MakesEntry t u H e = makes_same t u H e rest x.2.about x.2.stands x.2.same in
     let line = hub_says (counts_words (counts H)) in
     let o : ScriptOutcome = writes line (quietly (called s Count)) in
-    let done : CarriesOut u before after [] o = entered t u s e Count [] before after line h made (λ b. refl) refl (exact_entry t u s e h made refl refl) (changes_by s.about H e (legal_at t s h) (lawful_at t u s e h made) refl (λ b. refl)) w.1 refl
+    let done : CarriesOut u before after [] o = entered t u s e Count [] before after line h made (λ b. refl) refl (exact_entry t u s e h made refl refl)
+    (changes_by s.about H e (legal_at t s h) (lawful_at t u s e h made) refl (λ b. refl)) w.1 refl
     (wrote ∙ ap (λ (n : Counts). before ++ line_text (hub_says (counts_words n))) x.1) in
     subst (λ (b : Bool). CarriesOut u before after [] (cond b (writes (hub_says (codes "worn")) (quietly s)) o)) (sym (worn_is t s false h x.0)) done
 
@@ -83,7 +86,8 @@ counted t u s k before after w rest x wrote =
 pub counted_worn : (t u : ScriptHub) (s : State) (before after : List ℕ) → ScriptHolds t s → KeepsElse t u → u.core ≡ t.core → is_worn s ≡ true
     → after ≡ before ++ line_text (hub_says (codes "worn")) → CarriesOut u before after [] (says_counts s)
 counted_worn t u s before after w rest core worn wrote =
-    subst (λ (b : Bool). CarriesOut u before after [] (cond b (writes (hub_says (codes "worn")) (quietly s)) (writes (hub_says (counts_words (counts s.history))) (quietly (called s Count))))) (sym worn)
+    subst (λ (b : Bool). CarriesOut u before after [] (cond b (writes (hub_says (codes "worn")) (quietly s))
+    (writes (hub_says (counts_words (counts s.history))) (quietly (called s Count))))) (sym worn)
     (line_carried u before after after [] (hub_says (codes "worn")) (quietly s) wrote (quiet_carried u after [] s (stands_same t u s rest core w.0) w.1))
 
 -- ---- a stop
@@ -99,7 +103,8 @@ stopped t u s k cs before after w rest all x wrote =
     let among : (c : ℕ) → is_of H 0 c ≡ true → is_among c cs ≡ true = λ c own. all.all c (ap is_some (h.names c) ∙ some_name (peer_on s c) ∙ h.joined c (own_unleft H 0 c own)) in
     let line = hub_says (counts_words (counts H)) in
     let o : ScriptOutcome = writes line (quietly (called s Stop)) in
-    let done : CarriesOut u before after cs o = entered t u s e Stop cs before after line h made (λ b. refl) refl (exact_entry t u s e h made refl refl) (changes_all cs s.about H e among) w.1 all.order
+    let done : CarriesOut u before after cs o = entered t u s e Stop cs before after line h made (λ b. refl) refl (exact_entry t u s e h made refl refl)
+    (changes_all cs s.about H e among) w.1 all.order
     (wrote ∙ ap (λ (n : Counts). before ++ line_text (hub_says (counts_words n))) x.1) in
     subst (λ (b : Bool). CarriesOut u before after cs (cond b (writes (hub_says (codes "stopped already")) (quietly s)) o)) (sym x.0) done
 
@@ -107,7 +112,8 @@ stopped t u s k cs before after w rest all x wrote =
 pub stopped_already : (t u : ScriptHub) (s : State) (before after : List ℕ) → ScriptHolds t s → KeepsElse t u → u.core ≡ t.core → is_stopped s.history ≡ true
     → after ≡ before ++ line_text (hub_says (codes "stopped already")) → CarriesOut u before after [] (stops s)
 stopped_already t u s before after w rest core is wrote =
-    subst (λ (b : Bool). CarriesOut u before after [] (cond b (writes (hub_says (codes "stopped already")) (quietly s)) (writes (hub_says (counts_words (counts s.history))) (quietly (called s Stop))))) (sym is)
+    subst (λ (b : Bool). CarriesOut u before after [] (cond b (writes (hub_says (codes "stopped already")) (quietly s))
+    (writes (hub_says (counts_words (counts s.history))) (quietly (called s Stop))))) (sym is)
     (line_carried u before after after [] (hub_says (codes "stopped already")) (quietly s) wrote (quiet_carried u after [] s (stands_same t u s rest core w.0) w.1))
 
 -- What is put where it can be is carried on.

@@ -1,5 +1,8 @@
 -- The machines of all open names are told the time, one after the other.
-use Rattle.std.proofs.Common.{◌≡◌, ℕ, zero, suc, ◌+◌, ◌-◌, ◌<◌, ◌≤◌, nat_le, Bool, true, false, cond, ◌&&◌, List, [], ◌∷◌, ◌++◌, fold, map, length, set, take, drop, remove, slice_get, Option, Some, None, Result, Ok, Err, Vec, Global, refl, ap, sym, ◌∙◌, subst, append_assoc, append-nil, add-one, arith, drop_of_length-le, length-drop}
+-- It serves the clauses of `tick_one` and `tick`.
+use Rattle.std.proofs.Common.{◌≡◌, ℕ, zero, suc, ◌+◌, ◌-◌, ◌<◌, ◌≤◌, nat_le, Bool, true, false, cond, ◌&&◌, List, [], ◌∷◌, ◌++◌, fold, map, length, set, take, drop, remove}
+use Rattle.std.proofs.Common.{slice_get, Option, Some, None, Result, Ok, Err, Vec, Global, refl, ap, sym, ◌∙◌, subst, append_assoc, append-nil, add-one, arith, drop_of_length-le}
+use Rattle.std.proofs.Common.{length-drop}
 use Rattle.std.proofs.lemmas.Bool.Decides.{nat_tests}
 use Rattle.std.proofs.lemmas.List.Sums.{fold-append}
 use Rattle.bsc_history.specs.Laws.{Apart}
@@ -70,7 +73,8 @@ pub record Ticks (before b : List ℕ) (ms : ℕ) (t : ScriptHub) (at : ℕ) (s 
   pub rest : drop at (after s ms done).state.peers ≡ todo
 
 -- The clock is set, and nobody was told.
-pub ticks_begin : (t n : ScriptHub) (before : List ℕ) (ms : ℕ) (s : State) → ScriptHolds t s → n.core ≡ t.core → n.about ≡ t.about → n.clock ≡ ms → n.names ≡ t.names → n.peers ≡ t.peers → Ticks before before ms n 0 s
+pub ticks_begin : (t n : ScriptHub) (before : List ℕ) (ms : ℕ) (s : State) → ScriptHolds t s → n.core ≡ t.core → n.about ≡ t.about → n.clock ≡ ms → n.names ≡ t.names → n.peers ≡ t.peers
+    → Ticks before before ms n 0 s
 ticks_begin t n before ms s h core about clock names peers =
     let stands : ScriptStands n (record s { clock = ms }) = record {
       core = subst (λ d. CoreStands d s.history) (sym core) h.0.core;
@@ -119,7 +123,8 @@ ticks_end t before b ms at s i past =
     subst (λ l. CarriesOut t before b [] (after s ms l)) (sym all) i.carried
 
 -- Fewer are left after one is told.
-pub fewer : (t n : ScriptHub) (at next : ℕ) (u v : State) → ScriptStands t u → ScriptStands n v → at < length t.peers.entries → drop next v.peers ≡ drop (at + 1) u.peers → length n.peers.entries - next < length t.peers.entries - at
+pub fewer : (t n : ScriptHub) (at next : ℕ) (u v : State) → ScriptStands t u → ScriptStands n v → at < length t.peers.entries → drop next v.peers ≡ drop (at + 1) u.peers
+    → length n.peers.entries - next < length t.peers.entries - at
 fewer t n at next u v h g within rest =
     let a : length u.peers ≡ length t.peers.entries = names_length t u.peers (indexed t u h) in
     let b : length v.peers ≡ length n.peers.entries = names_length n v.peers (indexed n v g) in

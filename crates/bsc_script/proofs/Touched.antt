@@ -1,4 +1,5 @@
 -- What an entry does to the outboxes of connections: those that its reply doesn't touch gain no frame and no End.
+-- It serves clauses of functions of `script_hub`.
 use Rattle.std.proofs.Common.{◌≡◌, ℕ, ◌==◌, Bool, true, false, cond, ◌&&◌, List, [], ◌∷◌, ◌++◌, Some, None, refl, ap, sym, ◌∙◌, append-nil}
 use Rattle.std.proofs.lemmas.Bool.{eqb-true, and_parts, or_parts}
 use Rattle.bsc_history.specs.declared.limits.About.{About}
@@ -63,7 +64,8 @@ sent_same a H e c legal lawful un =
     let none = λ (call : Call). added_by a H (sent a H c) c call e.looks ≡ [] in
     let by : (call : Call) → e.call ≡ call → none call = λ call. elim call as (λ call. e.call ≡ call → none call) [
       | Connect who ↦ λ is. refl
-      | Forward sender m ↦ λ is. sym (ap (λ (x : Call). added_by a H (sent a H c) c x e.looks) is) ∙ adds_as_named a H legal e sender m c lawful is ∙ ap (λ (b : Bool). cond b (out_of H sender m ∷ []) []) (unnamed c e.reply un)
+      | Forward sender m ↦ λ is. sym (ap (λ (x : Call). added_by a H (sent a H c) c x e.looks) is) ∙ adds_as_named a H legal e sender m c lawful is
+          ∙ ap (λ (b : Bool). cond b (out_of H sender m ∷ []) []) (unnamed c e.reply un)
       | Leave conn taken empties ↦ λ is. refl
       | Stop ↦ λ is. refl
       | Count ↦ λ is. refl
@@ -76,4 +78,5 @@ ended_same H e c s l un = ended-same H e c (rw (by_call c e.call s l, unended c 
 
 -- Who hasn't left stays the caller's own by an entry that isn't its Leave.
 pub is_of_same : (a : About) (H : List Entry) (e : Entry) (p c : ℕ) → Legal a H → Lawful a (moment H e) → leaves c e ≡ false → is_of H p c ≡ true → is_of (H ++ e ∷ []) p c ≡ true
-is_of_same a H e p c legal lawful l h = stays a p c (λ x. (x.number == c) && (x.caller == p)) (λ x k. (let two = and_parts (x.number == c) (x.caller == p) k in (eqb-true x.caller p two.1, eqb-true x.number c two.0))) H e legal lawful (λ mine. l) h
+is_of_same a H e p c legal lawful l h = stays a p c (λ x. (x.number == c) && (x.caller == p))
+    (λ x k. (let two = and_parts (x.number == c) (x.caller == p) k in (eqb-true x.caller p two.1, eqb-true x.number c two.0))) H e legal lawful (λ mine. l) h

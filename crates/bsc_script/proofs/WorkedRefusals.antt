@@ -1,4 +1,5 @@
 -- Scripts that are refused, and those that say nothing: the text, and the number of the refused line.
+-- No clause needs it: worked examples.
 use Rattle.std.specs.Prelude.{◌≡◌, ℕ, List, [], ◌∷◌, ◌++◌, codes, Some, None, refl}
 use Rattle.uuid.proofs.OnLiterals.{uuid_on_literals}
 use Rattle.bsc_script.specs.Scripts.{replay_of}

@@ -1,4 +1,5 @@
 -- Messages for the hub itself, the clock and the stop written out: the lines, and what is written for them.
+-- No clause needs it: worked examples.
 use Rattle.std.specs.Prelude.{◌≡◌, ℕ, List, [], ◌∷◌, ◌++◌, codes, Some, refl}
 use Rattle.uuid.proofs.OnLiterals.{uuid_on_literals}
 use Rattle.bsc_script.proofs.OnLiterals.{script_on_literals}

@@ -1,5 +1,7 @@
 -- What a line adds to the history: entries behind those before, of caller 0.
-use Rattle.std.proofs.Common.{◌≡◌, ℕ, nat_le, nat_lt, Bool, true, false, not, ◌&&◌, cond, List, [], ◌∷◌, ◌++◌, codes, fold, length, Option, Some, None, option_map, refl, ap, sym, ◌∙◌, subst, append_assoc, append-nil}
+-- It serves the clauses of `a_line_goes_on` and `a_script_is_of_one_hub`.
+use Rattle.std.proofs.Common.{◌≡◌, ℕ, nat_le, nat_lt, Bool, true, false, not, ◌&&◌, cond, List, [], ◌∷◌, ◌++◌, codes, fold, length, Option, Some, None, option_map, refl, ap, sym}
+use Rattle.std.proofs.Common.{◌∙◌, subst, append_assoc, append-nil}
 use Rattle.std.specs.List.{AllByRecursion}
 use Rattle.bsc_octets.specs.declared.identity.Identity.{Identity}
 use Rattle.bsc_history.specs.declared.limits.About.{About}
@@ -107,10 +109,12 @@ connects_added P plain s k who =
     (call_added P s (Connect who) (plain (entry_in s (Connect who)) refl refl))
     (replied_added P plain (called s (Connect who)) k (reply_in s (Connect who))))
 
-forwards_added : (P : Entry → Type 0) → HoldsPlain P → (s : State) (k : Peer) (o : Option ℕ) (m : List ℕ) → ((c : ℕ) → P (entry_in s (Forward c m))) → Adds P s.about s.history (forwards_if s k o m).state
+forwards_added : (P : Entry → Type 0) → HoldsPlain P → (s : State) (k : Peer) (o : Option ℕ) (m : List ℕ) → ((c : ℕ) → P (entry_in s (Forward c m)))
+    → Adds P s.about s.history (forwards_if s k o m).state
 forwards_added P plain s k None m f = nothing_added P s
 forwards_added P plain s k (Some c) m f =
-    either_added P s.about s.history (is_worn s) (wears s k) (writes (says k.name (forward_words (reply_in s (Forward c m)))) (quietly (called s (Forward c m)))) (ends_added P plain s k) (call_added P s (Forward c m) (f c))
+    either_added P s.about s.history (is_worn s) (wears s k) (writes (says k.name (forward_words (reply_in s (Forward c m)))) (quietly (called s (Forward c m)))) (ends_added P plain s k)
+    (call_added P s (Forward c m) (f c))
 
 acts_added : (P : Entry → Type 0) → HoldsPlain P → (s : State) (k : Peer) (m : List ℕ) (x : Step) → ((c : ℕ) → P (entry_in s (Forward c m))) → Adds P s.about s.history (acts s k m x).state
 acts_added P plain s k m (Ask who) f = connects_added P plain s k who
@@ -124,7 +128,8 @@ acts_added P plain s k m NoStep f = does_added P plain s k NoStep
 abbrev pub HoldsForward : (Entry → Type 0) → State → Type 0
 HoldsForward P s = (name : List ℕ) (k : Peer) (e : Event) (c : ℕ) (m : List ℕ) → peer_of s name ≡ Some k → P (entry_in (with_peer (told e k) s) (Forward c m))
 
-receives_added : (P : Entry → Type 0) → HoldsPlain P → (s : State) → HoldsForward P s → (name : List ℕ) (k : Peer) (m : List ℕ) → peer_of s name ≡ Some k → Adds P s.about s.history (receives s k m).state
+receives_added : (P : Entry → Type 0) → HoldsPlain P → (s : State) → HoldsForward P s → (name : List ℕ) (k : Peer) (m : List ℕ) → peer_of s name ≡ Some k
+    → Adds P s.about s.history (receives s k m).state
 receives_added P plain s f name k m is =
     let e = Came s.clock (verdict_on s k m) in
     acts_added P plain (with_peer (told e k) s) (told e k) m (step_of s k e) (λ c. f name k e c m is)
@@ -198,10 +203,12 @@ outcome_added P plain s f (At ms) o e =
     (ticks_added P plain s.about s.history s.peers (quietly (record s { clock = ms })) (kept_added P s.about s.history (record s { clock = ms }) refl refl))
 outcome_added P plain s f Stop o e =
     as_outcome P s.about s.history (stops s) o (same_some (stops s) o e)
-    (either_added P s.about s.history (is_stopped s.history) (writes (hub_says (codes "stopped already")) (quietly s)) (writes (hub_says (counts_words (counts s.history))) (quietly (called s StopCall))) (nothing_added P s) (call_added P s StopCall (plain (entry_in s StopCall) refl refl)))
+    (either_added P s.about s.history (is_stopped s.history) (writes (hub_says (codes "stopped already")) (quietly s))
+    (writes (hub_says (counts_words (counts s.history))) (quietly (called s StopCall))) (nothing_added P s) (call_added P s StopCall (plain (entry_in s StopCall) refl refl)))
 outcome_added P plain s f Counts o e =
     as_outcome P s.about s.history (says_counts s) o (same_some (says_counts s) o e)
-    (either_added P s.about s.history (is_worn s) (writes (hub_says (codes "worn")) (quietly s)) (writes (hub_says (counts_words (counts s.history))) (quietly (called s Count))) (nothing_added P s) (call_added P s Count (plain (entry_in s Count) refl refl)))
+    (either_added P s.about s.history (is_worn s) (writes (hub_says (codes "worn")) (quietly s)) (writes (hub_says (counts_words (counts s.history))) (quietly (called s Count)))
+    (nothing_added P s) (call_added P s Count (plain (entry_in s Count) refl refl)))
 
 pub then_emptied : (p : Option ScriptOutcome) (o : ScriptOutcome) → option_map emptied p ≡ Some o → (u : ScriptOutcome) × (p ≡ Some u) × (emptied u ≡ o)
 then_emptied None o e = cc

@@ -1,5 +1,7 @@
 -- Nothing is written in a line under a name that isn't open.
-use Rattle.std.proofs.Common.{◌≡◌, ◌≢◌, ℕ, nat_le, nat_lt, Bool, true, false, not, ◌&&◌, cond, List, [], ◌∷◌, ◌++◌, codes, filter, find, flat_map, fold, length, map, Option, Some, None, is_some, refl, ap, sym, ◌∙◌, subst, true≢false}
+-- It serves the clauses of `a_line_goes_on` and `a_script_is_of_one_hub`.
+use Rattle.std.proofs.Common.{◌≡◌, ◌≢◌, ℕ, nat_le, nat_lt, Bool, true, false, not, ◌&&◌, cond, List, [], ◌∷◌, ◌++◌, codes, filter, find, flat_map, fold, length, map, Option, Some}
+use Rattle.std.proofs.Common.{None, is_some, refl, ap, sym, ◌∙◌, subst, true≢false}
 use Rattle.std.specs.List.{AllByRecursion}
 use Rattle.bsc_octets.specs.declared.identity.Identity.{Identity}
 use Rattle.bsc_history.specs.declared.connection.Connection.{Connection}

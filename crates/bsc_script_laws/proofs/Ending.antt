@@ -1,4 +1,5 @@
 -- What is done to a peer writes plain lines under a name, or the name is that of the peer, and is over.
+-- It serves the clauses of `a_line_goes_on`.
 use Rattle.std.proofs.Common.{◌≡◌, ◌≢◌, ◌⊎◌, inl, inr, ℕ, Bool, true, false, not, cond, List, [], ◌∷◌, ◌++◌, codes, filter, Option, Some, None, refl, ap, sym, ◌∙◌, true≢false}
 use Rattle.std.specs.List.{AllByRecursion}
 use Rattle.bsc_octets.specs.declared.identity.Identity.{Identity}

@@ -1,5 +1,7 @@
 -- What the verdict at the hub port says of a message, whatever numbers it is made of, and which steps ask and carry.
-use Rattle.std.proofs.Common.{◌≡◌, inl, inr, ℕ, ◌+◌, ◌≤◌, ◌==◌, nat_le, nat_lt, Bool, true, false, not, ◌&&◌, ◌||◌, cond, List, [], ◌∷◌, ◌++◌, drop, take, length, Option, Some, None, is_some, is_none, true≢false, refl, ap, sym, ◌∙◌, arith}
+-- It serves the clauses of `a_line_goes_on` and `a_script_is_of_one_hub`.
+use Rattle.std.proofs.Common.{◌≡◌, inl, inr, ℕ, ◌+◌, ◌≤◌, ◌==◌, nat_le, nat_lt, Bool, true, false, not, ◌&&◌, ◌||◌, cond, List, [], ◌∷◌, ◌++◌, drop, take, length, Option, Some}
+use Rattle.std.proofs.Common.{None, is_some, is_none, true≢false, refl, ap, sym, ◌∙◌, arith}
 use Rattle.std.proofs.lemmas.Bool.{and_cases, or_parts, both_ways, eqb-true, le-leb, ltb-false, true_from_ne_false}
 use Rattle.bsc_octets.specs.declared.envelope.Envelope.{Envelope}
 use Rattle.bsc_octets.specs.declared.identity.Identity.{Identity}
@@ -73,7 +75,8 @@ last_test a b c d e f h =
 -- whose address is in range
 in_range : (p : List ℕ) → is_out_of_range 6 p ≡ false → (same_vmac (vmac_at p 0) zero_vmac ≡ false) × (same_vmac (vmac_at p 0) broadcast ≡ false)
 in_range p h =
-    let last : has_no_nodes_vmac 6 p ≡ false = last_test (has_unknown_result 6 p) (has_bad_details 6 p) (has_bad_uris 6 p) (has_unknown_status 6 p) (has_unknown_accepts 6 p) (has_no_nodes_vmac 6 p) h in
+    let last : has_no_nodes_vmac 6 p ≡ false = last_test (has_unknown_result 6 p) (has_bad_details 6 p) (has_bad_uris 6 p) (has_unknown_status 6 p) (has_unknown_accepts 6 p)
+    (has_no_nodes_vmac 6 p) h in
     or_parts (same_vmac (vmac_at p 0) zero_vmac) (same_vmac (vmac_at p 0) broadcast) last
 
 -- the address in the first six octets
@@ -103,7 +106,8 @@ asks_for_node m max msg who h asks =
     let all = none_fails (fails m place max) (head_checks ++ later_checks ++ C13 ∷ []) (ap (first_failing (fails m place max)) (sym checks) ∙ a.0) in
     let later = all.1.1.1.1.1 in
     let place_so : not (is_in_place (announces_dest (flags_in m)) place (function_in m) (origin_in m)) ≡ false = later.1.1.1.1.1.1.1.1.1.1.0 in
-    let six_is : (function_in m == 6) ≡ true = true_from_ne_false (function_in m == 6) (λ isnt. true≢false (ap not (sym isnt) ∙ ap (λ (b : Bool). not (is_in_place b place (function_in m) (origin_in m))) (sym p.0) ∙ place_so)) in
+    let six_is : (function_in m == 6) ≡ true = true_from_ne_false (function_in m == 6)
+    (λ isnt. true≢false (ap not (sym isnt) ∙ ap (λ (b : Bool). not (is_in_place b place (function_in m) (origin_in m))) (sym p.0) ∙ place_so)) in
     let function : function_in m ≡ 6 = eqb-true (function_in m) 6 six_is in
     let range = payload_in_range (function_in m) (data_options_in m) function later.1.0 later.1.1.1.1.1.1.1.1.0 in
     let body : body_in (function_in m) (rest_of (data_options_in m)) ≡ body_in 6 (rest_of (data_options_in m)) = ap (λ (n : ℕ). body_in n (rest_of (data_options_in m))) function in

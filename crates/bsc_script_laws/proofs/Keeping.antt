@@ -1,4 +1,5 @@
 -- What a line does keeps a state sound, before the outboxes are emptied.
+-- It serves the clauses of `a_line_goes_on` and `a_script_is_of_one_hub`.
 use Rattle.std.proofs.Common.{◌≡◌, ◌≢◌, inl, inr, ℕ, nat_le, nat_lt, Bool, true, false, not, ◌&&◌, cond, List, [], ◌∷◌, codes, fold, length, Option, Some, None, refl, ap, sym, ◌∙◌, subst}
 use Rattle.std.proofs.lemmas.Bool.{and_from, leb-false, lt-ltb}
 use Rattle.bsc_octets.specs.declared.identity.Identity.{Identity}
@@ -69,7 +70,8 @@ unworn s w = lt-ltb (length s.history) s.about.limits.calls (leb-false s.about.l
 replied_sound : (s : State) → IsSound s → (k : Peer) (who : Identity) → In k s.peers → k.conn ≡ None → may_call s.about s.history 0 (Connect who) ≡ true
     → (r : Reply) → reply_in s (Connect who) ≡ r → IsSound (gets_reply (called s (Connect who)) k r).state
 replied_sound s h k who m free may (Joined conn replaced) is = joined_sound s h k who conn replaced m free may is
-replied_sound s h k who m free may (Refused refusal) is = tells_sound (called s (Connect who)) (quiet_sound s h (Connect who) may (ap (made_by 0 (Connect who)) is) (λ c. refl)) k (WasRefused refusal) m
+replied_sound s h k who m free may (Refused refusal) is = tells_sound (called s (Connect who)) (quiet_sound s h (Connect who) may (ap (made_by 0 (Connect who)) is) (λ c. refl)) k
+    (WasRefused refusal) m
 replied_sound s h k who m free may (Appended conn) is = quiet_sound s h (Connect who) may (ap (made_by 0 (Connect who)) is) (λ c. refl)
 replied_sound s h k who m free may (Closed conn) is = quiet_sound s h (Connect who) may (ap (made_by 0 (Connect who)) is) (λ c. refl)
 replied_sound s h k who m free may (Skipped conn) is = quiet_sound s h (Connect who) may (ap (made_by 0 (Connect who)) is) (λ c. refl)
@@ -80,14 +82,16 @@ replied_sound s h k who m free may Stopped is = quiet_sound s h (Connect who) ma
 replied_sound s h k who m free may (Gone ending taken) is = quiet_sound s h (Connect who) may (ap (made_by 0 (Connect who)) is) (λ c. refl)
 replied_sound s h k who m free may (Counted k2) is = quiet_sound s h (Connect who) may (ap (made_by 0 (Connect who)) is) (λ c. refl)
 
-connects_sound : (s : State) → IsSound s → (k : Peer) (who : Identity) → In k s.peers → k.conn ≡ None → same_vmac who.vmac zero_vmac ≡ false → same_vmac who.vmac broadcast ≡ false → IsSound (connects s k who).state
+connects_sound : (s : State) → IsSound s → (k : Peer) (who : Identity) → In k s.peers → k.conn ≡ None → same_vmac who.vmac zero_vmac ≡ false → same_vmac who.vmac broadcast ≡ false
+    → IsSound (connects s k who).state
 connects_sound s h k who m free zero all = by (is_worn s) refl
   where
     by : (b : Bool) → is_worn s ≡ b → IsSound (cond b (wears s k) (gets_reply (called s (Connect who)) k (reply_in s (Connect who)))).state
     by true w = ends_sound s h k m
     by false w =
         let named = and_from (not (same_vmac who.vmac zero_vmac)) (not (same_vmac who.vmac broadcast)) (ap not zero) (ap not all) in
-        replied_sound s h k who m free (and_from (not (same_vmac who.vmac zero_vmac) && not (same_vmac who.vmac broadcast)) (nat_lt (length s.history) s.about.limits.calls) named (unworn s w)) (reply_in s (Connect who)) refl
+        replied_sound s h k who m free (and_from (not (same_vmac who.vmac zero_vmac) && not (same_vmac who.vmac broadcast)) (nat_lt (length s.history) s.about.limits.calls) named
+        (unworn s w)) (reply_in s (Connect who)) refl
 
 forwards_sound : (s : State) → IsSound s → (k : Peer) (m : List ℕ) → In k s.peers → has_route m ≡ true → (o : Option ℕ) → k.conn ≡ o → IsSound (forwards_if s k o m).state
 forwards_sound s h k m i route None is = h
@@ -170,7 +174,8 @@ held_sound s h k held m =
     let p = h.peers k m in
     changed_sound s h k (with_held held k) m refl refl (record { own = p.own; begins = p.begins; behind = p.behind; waits = p.waits; none = p.none })
 
-opening_sound : (s : State) → IsSound s → (name : List ℕ) (o : ScriptOutcome) (b : Bool) → is_open s name ≡ b → cond (not b && nat_lt (length s.peers) most_names) (Some (quietly (with_opened (new_peer name s.clock) s))) None ≡ Some o → IsSound o.state
+opening_sound : (s : State) → IsSound s → (name : List ℕ) (o : ScriptOutcome) (b : Bool) → is_open s name ≡ b
+    → cond (not b && nat_lt (length s.peers) most_names) (Some (quietly (with_opened (new_peer name s.clock) s))) None ≡ Some o → IsSound o.state
 opening_sound s h name o true is e = cc
 opening_sound s h name o false is e =
     let x = quietly (with_opened (new_peer name s.clock) s) in
@@ -179,7 +184,8 @@ opening_sound s h name o false is e =
 stops_sound : (s : State) → IsSound s → IsSound (stops s).state
 stops_sound s h = by (is_stopped s.history) refl
   where
-    by : (b : Bool) → is_stopped s.history ≡ b → IsSound (cond b (writes (hub_says (codes "stopped already")) (quietly s)) (writes (hub_says (counts_words (counts s.history))) (quietly (called s StopCall)))).state
+    by : (b : Bool) → is_stopped s.history ≡ b → IsSound (cond b (writes (hub_says (codes "stopped already")) (quietly s))
+        (writes (hub_says (counts_words (counts s.history))) (quietly (called s StopCall)))).state
     by true is = h
     by false is = quiet_sound s h StopCall (ap not is) refl (λ c. refl)
 

@@ -1,4 +1,5 @@
 -- After the close of a name only the word that its connection is gone is written under it.
+-- It serves the clauses of `a_line_goes_on`.
 use Rattle.std.proofs.Common.{◌≡◌, ◌≢◌, ◌⊎◌, inl, inr, ℕ, nat_le, nat_lt, Bool, true, false, not, ◌&&◌, cond, List, [], ◌∷◌, ◌++◌, codes, fold, length, map, Some, None, refl, sym, subst}
 use Rattle.std.specs.Prelude.{⊤}
 use Rattle.std.specs.List.{AllByRecursion}
@@ -61,7 +62,8 @@ either_so_far : (n : List ℕ) (ks : List Peer) (b : Bool) (x y : ScriptOutcome)
 either_so_far n ks true x y f g = f
 either_so_far n ks false x y f g = g
 
-emptied_so_far : (n : List ℕ) (xs : List OnConnection) (o : ScriptOutcome) → AtMostOne n (map (λ (x : OnConnection). x.peer) xs) → SoFar n (map (λ (x : OnConnection). x.peer) xs) o → SoFar n [] (fold emptied_one o xs)
+emptied_so_far : (n : List ℕ) (xs : List OnConnection) (o : ScriptOutcome) → AtMostOne n (map (λ (x : OnConnection). x.peer) xs) → SoFar n (map (λ (x : OnConnection). x.peer) xs) o
+    → SoFar n [] (fold emptied_one o xs)
 emptied_so_far n [] o one h = h
 emptied_so_far n (x ∷ xs) o one h =
     let ks = map (λ (y : OnConnection). y.peer) xs in
@@ -104,7 +106,8 @@ outcome_fit n s (Open name) o h e = opening (is_open s name) refl e
     opening true is f = cc
     opening false is f =
         as_fit n x o (accepted (nat_lt (length s.peers) most_names) x o f)
-        (quiet_fit n (with_opened (new_peer name s.clock) s) (one_pushed n s.peers (new_peer name s.clock) h (λ same. subst (λ (m : List ℕ). AllByRecursion (λ (p : Peer). p.name ≢ m) s.peers) same (none_of name s.peers is))))
+        (quiet_fit n (with_opened (new_peer name s.clock) s) (one_pushed n s.peers (new_peer name s.clock) h
+        (λ same. subst (λ (m : List ℕ). AllByRecursion (λ (p : Peer). p.name ≢ m) s.peers) same (none_of name s.peers is))))
 outcome_fit n s (In name m) o h e =
     let p = of_name (λ q. receives s q m) (peer_of s name) o e in
     as_fit n (receives s p.0 m) o p.2 (record { lines = only_so_far n p.0 (receives s p.0 m) (receives_only n s p.0 m); one = receives_one n s p.0 m h })
@@ -152,7 +155,8 @@ emptied_ends n a u legal fit =
     let xs = in_order_of_joining u.state in
     let more = all_emptied_added (λ e. ⊤) (λ e c l. tt) u.state.about u.state.history xs u (nothing_added (λ e. ⊤) u.state) in
     let before : Legal a u.state.history = Legal-first a u.state.history more.more (subst (Legal a) more.behind legal) in
-    let one = subst (AtMostOne n) (sym (peers_joined u.state.peers (unleft u.state.history))) (one_joined n u.state.peers (unleft u.state.history) fit.one (numbers_are_new a u.state.history before)) in
+    let one = subst (AtMostOne n) (sym (peers_joined u.state.peers (unleft u.state.history)))
+    (one_joined n u.state.peers (unleft u.state.history) fit.one (numbers_are_new a u.state.history before)) in
     so_far_ends n (emptied u) (emptied_so_far n xs u one (before_emptied n u fit.lines))
 
 pub line_ends : (n : List ℕ) (a : About) (s : State) → Apart name_of s.peers → (line : Line) (o : ScriptOutcome) → Legal a o.state.history → run_line s line ≡ Some o → EndsByClosing n o.said

@@ -1,4 +1,5 @@
 -- The looks of a line find what had been written before it.
+-- It serves the clauses of `a_line_goes_on` and `a_script_is_of_one_hub`.
 use Rattle.std.proofs.Common.{◌≡◌, ◌≢◌, ℕ, Bool, true, false, cond, List, [], ◌∷◌, ◌++◌, find, length, drop, map, Some, refl, ap, sym, ◌∙◌, subst, true≢false}
 use Rattle.std.specs.List.{AllByRecursion}
 use Rattle.bsc_history.specs.declared.entry.Entry.{Entry}
@@ -85,7 +86,8 @@ told_written s name k e c apart is =
 
 -- ---- the looks of a line
 
-pub all_found : (s t : State) (cs : List ℕ) → ((c : ℕ) → written_for t c ≡ written_for s c) → AllByRecursion (λ (l : Look). l.taken ≡ written_for s l.conn) (map (λ c. record { conn = c; taken = written_for t c }) cs)
+pub all_found : (s t : State) (cs : List ℕ) → ((c : ℕ) → written_for t c ≡ written_for s c)
+    → AllByRecursion (λ (l : Look). l.taken ≡ written_for s l.conn) (map (λ c. record { conn = c; taken = written_for t c }) cs)
 all_found s t [] h = tt
 all_found s t (c ∷ cs) h = (h c, all_found s t cs h)
 

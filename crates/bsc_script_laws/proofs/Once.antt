@@ -1,4 +1,5 @@
 -- A name is open once at most, whatever a line does, and stands once at most in the order of joining.
+-- It serves the clauses of `a_line_goes_on` and `a_script_is_of_one_hub`.
 use Rattle.std.proofs.Common.{◌≡◌, ◌≢◌, inl, inr, ℕ, Bool, true, false, not, cond, List, [], ◌∷◌, ◌++◌, filter, flat_map, fold, map, Option, Some, None, refl, ap, sym, ◌∙◌}
 use Rattle.std.specs.Prelude.{⊤}
 use Rattle.std.specs.List.{AllByRecursion}
@@ -180,7 +181,8 @@ same_conn n k (p ∷ ks) h (inl same) e = ((λ f. ap (λ (q : Peer). q.conn) sam
     others (j ∷ js) a = ((λ f. absurd (a.0 f)), others js a.1)
 same_conn n k (p ∷ ks) h (inr m) e = ((λ f. absurd (In_from_all (λ (q : Peer). q.name ≢ n) k ks (h.0 f) m e)), same_conn n k ks h.1 m e)
 
-none_joined : (n : List ℕ) (c : ℕ) (o : Option ℕ) (ks : List Peer) (cs : List Connection) → o ≡ Some c → AllByRecursion (λ (p : Peer). p.name ≡ n → p.conn ≡ o) ks → AllByRecursion (λ (x : Connection). c ≢ x.number) cs
+none_joined : (n : List ℕ) (c : ℕ) (o : Option ℕ) (ks : List Peer) (cs : List Connection) → o ≡ Some c → AllByRecursion (λ (p : Peer). p.name ≡ n → p.conn ≡ o) ks
+    → AllByRecursion (λ (x : Connection). c ≢ x.number) cs
     → AllByRecursion (λ (q : Peer). q.name ≢ n) (joined_peers ks cs)
 none_joined n c o ks [] is h a = tt
 none_joined n c o ks (d ∷ cs) is h a =

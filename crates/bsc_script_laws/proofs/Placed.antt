@@ -1,4 +1,5 @@
 -- Lists of peers where one stands in the place of those that have its name, and who is among them.
+-- It serves the clauses of `a_line_goes_on` and `a_script_is_of_one_hub`.
 use Rattle.std.proofs.Common.{◌≡◌, ◌⊎◌, inl, inr, ℕ, Bool, true, false, cond, List, [], ◌∷◌, find, map, Option, Some, None, MatchOption, refl, ap, sym, ◌∙◌, subst}
 use Rattle.bsc_history.proofs.Lists.{In, find_says}
 use Rattle.bsc_script.specs.States.{Peer, is_named}
@@ -20,7 +21,8 @@ in_placed j q (p ∷ ks) m = by (is_named j.name p) refl m (in_placed j q ks)
     later (inl e) = inl e
     later (inr r) = inr (inr r.0, r.1)
 
-    by : (b : Bool) → is_named j.name p ≡ b → (cond b j p ≡ q) ⊎ In q (placed j ks) → (In q (placed j ks) → (q ≡ j) ⊎ (In q ks × (is_named j.name q ≡ false))) → (q ≡ j) ⊎ (In q (p ∷ ks) × (is_named j.name q ≡ false))
+    by : (b : Bool) → is_named j.name p ≡ b → (cond b j p ≡ q) ⊎ In q (placed j ks) → (In q (placed j ks) → (q ≡ j) ⊎ (In q ks × (is_named j.name q ≡ false))) → (q ≡ j)
+        ⊎ (In q (p ∷ ks) × (is_named j.name q ≡ false))
     by true is (inl e) rec = inl (sym e)
     by true is (inr n) rec = later (rec n)
     by false is (inl e) rec = inr (inl e, ap (is_named j.name) (sym e) ∙ is)

@@ -1,5 +1,7 @@
 -- Once the outboxes are emptied, nothing is due for a peer that is connected and not held.
-use Rattle.std.proofs.Common.{◌≡◌, ◌≢◌, ◌⊎◌, inl, inr, ℕ, ◌+◌, ◌≤◌, ◌==◌, Bool, true, false, not, ◌&&◌, ◌||◌, cond, List, [], ◌∷◌, ◌++◌, drop, filter, fold, length, map, Option, Some, None, is_some, true≢false, refl, ap, sym, ◌∙◌, subst, arith, append-nil, length-append}
+-- It serves the clauses of `a_line_goes_on` and `a_script_is_of_one_hub`.
+use Rattle.std.proofs.Common.{◌≡◌, ◌≢◌, ◌⊎◌, inl, inr, ℕ, ◌+◌, ◌≤◌, ◌==◌, Bool, true, false, not, ◌&&◌, ◌||◌, cond, List, [], ◌∷◌, ◌++◌, drop, filter, fold, length, map, Option}
+use Rattle.std.proofs.Common.{Some, None, is_some, true≢false, refl, ap, sym, ◌∙◌, subst, arith, append-nil, length-append}
 use Rattle.std.specs.Option.{option_or}
 use Rattle.std.proofs.lemmas.Bool.{and_parts, and_right, eqb-true, false_from_ne_true}
 use Rattle.bsc_history.specs.declared.limits.About.{About}
@@ -24,7 +26,8 @@ use Rattle.bsc_ring.specs.Lists.{StartsWith}
 use Rattle.bsc_script.specs.States.{State, Peer, has_joined_as, is_named, told, with_peer}
 use Rattle.bsc_script.specs.Calls.{entry_in, leave_of}
 use Rattle.bsc_script.specs.Carrying.{ScriptOutcome, and_then, does, leaves_if}
-use Rattle.bsc_script.specs.Emptying.{OnConnection, due_after, emptied, emptied_after, emptied_one, empties, ends_as, found_empty, given_frames, in_order_of_joining, is_connected, is_emptied, unwritten}
+use Rattle.bsc_script.specs.Emptying.{OnConnection, due_after, emptied, emptied_after, emptied_one, empties, ends_as, found_empty, given_frames, in_order_of_joining, is_connected}
+use Rattle.bsc_script.specs.Emptying.{is_emptied, unwritten}
 use Rattle.bsc_script.specs.Holding.{name_of, conn_of}
 use Rattle.bsc_script.proofs.Peers.{conn_has, has_conn, name_same, other_name}
 use Rattle.bsc_script_laws.proofs.Keeping.{does_sound}
@@ -72,7 +75,8 @@ empty_sound : (a : About) (H : List Entry) (k : Peer) → IsSoundPeer a H k → 
 empty_sound a H k p = record { own = p.own; begins = p.begins; behind = p.behind; waits = p.waits; none = p.none }
 
 -- nothing is due for whom all was written, and whose connection is live
-none_due : (a : About) (H : List Entry) (k j : Peer) (c : ℕ) → StartsWith (sent a H c) k.frames → j.frames ≡ k.frames ++ drop (length k.frames) (sent a H c) → ended H c ≡ None → due_after a H j c ≡ false
+none_due : (a : About) (H : List Entry) (k j : Peer) (c : ℕ) → StartsWith (sent a H c) k.frames → j.frames ≡ k.frames ++ drop (length k.frames) (sent a H c) → ended H c ≡ None
+    → due_after a H j c ≡ false
 none_due a H k j c begins frames live =
     let all : j.frames ≡ sent a H c = frames ∙ filled (sent a H c) k.frames begins in
     let rest : drop (length j.frames) (sent a H c) ≡ [] = ap (λ (l : List (List ℕ)). drop (length l) (sent a H c)) all ∙ drop-whole (sent a H c) in
@@ -158,7 +162,8 @@ told_stays s k q c ending i isnt = placed_other (told_frames s k c ending) q (pl
 
 module _ (s : State) (h : IsSound s) (k : Peer) (c : ℕ) (m : In k s.peers) (is : k.conn ≡ Some c) (ending : End) where
   told_here : In (told_frames s k c ending) (told_state s k c ending).peers
-  told_here = placed_in (told_frames s k c ending) (given_frames (unwritten s k c) k) (placed (given_frames (unwritten s k c) k) s.peers) (placed_in (given_frames (unwritten s k c) k) k s.peers m refl) refl
+  told_here = placed_in (told_frames s k c ending) (given_frames (unwritten s k c) k) (placed (given_frames (unwritten s k c) k) s.peers)
+      (placed_in (given_frames (unwritten s k c) k) k s.peers m refl) refl
 
   told_is_sound : IsSound (told_state s k c ending)
   told_is_sound =
@@ -177,13 +182,15 @@ module _ (s : State) (h : IsSound s) (k : Peer) (c : ℕ) (m : In k s.peers) (is
       on_line : is_connected (phase k.events) ≡ true
       on_line = (and_parts (is_connected (phase k.events)) (not k.held) (and_parts (is_connected (phase k.events) && not k.held) (due_after s.about s.history k c) due).0).0
 
-      by : (q : Peer) → (q ≡ told_frames s k c ending) ⊎ (In q s.peers × (is_named k.name q ≡ false)) → (In q s.peers × (is_named k.name q ≡ false)) ⊎ ((d : ℕ) → q.conn ≡ Some d → is_emptied s q d ≡ false)
+      by : (q : Peer) → (q ≡ told_frames s k c ending) ⊎ (In q s.peers × (is_named k.name q ≡ false)) → (In q s.peers × (is_named k.name q ≡ false))
+          ⊎ ((d : ℕ) → q.conn ≡ Some d → is_emptied s q d ≡ false)
       by q (inl e) = inr (λ d f. subst (λ (r : Peer). is_emptied s r d ≡ false) (sym e)
           (ap (λ (b : Bool). b && not k.held && due_after s.about s.history (told_frames s k c ending) d) (parted k.events s.clock ending on_line open_still)))
       by q (inr r) = inl r
 
   -- The WebSocket is closed: the connection leaves.
-  closed_emptied : (x : Closing) → (o : Option ℕ) → k.conn ≡ o → IsSound (leaves_if (told_state s k c ending) (told_frames s k c ending) o).state → IsEmptied k c s (leaves_if (told_state s k c ending) (told_frames s k c ending) o).state
+  closed_emptied : (x : Closing) → (o : Option ℕ) → k.conn ≡ o → IsSound (leaves_if (told_state s k c ending) (told_frames s k c ending) o).state
+      → IsEmptied k c s (leaves_if (told_state s k c ending) (told_frames s k c ending) o).state
   closed_emptied x None e sound = absurd (nothing_some c (sym e ∙ is))
   closed_emptied x (Some d) e sound = record {
     sound = sound;
@@ -204,7 +211,8 @@ module _ (s : State) (h : IsSound s) (k : Peer) (c : ℕ) (m : In k s.peers) (is
       there q r = later q (open_not (is_named k.name q) r.1) (told_there s k q c ending r.0)
 
 -- What comes of the End of a connection that ended.
-over_emptied : (s : State) → IsSound s → (k : Peer) (c : ℕ) → In k s.peers → k.conn ≡ Some c → is_emptied s k c ≡ true → (ending : End) → IsEmptied k c s (does (told_state s k c ending) (told_frames s k c ending) (ended_step ending)).state
+over_emptied : (s : State) → IsSound s → (k : Peer) (c : ℕ) → In k s.peers → k.conn ≡ Some c → is_emptied s k c ≡ true → (ending : End)
+    → IsEmptied k c s (does (told_state s k c ending) (told_frames s k c ending) (ended_step ending)).state
 over_emptied s h k c m is due Left = parted_emptied s h k c m is Left due (λ e. cc)
 over_emptied s h k c m is due Replaced = parted_emptied s h k c m is Replaced due (λ e. cc)
 over_emptied s h k c m is due Stopped = parted_emptied s h k c m is Stopped due (λ e. cc)
@@ -212,7 +220,8 @@ over_emptied s h k c m is due Full =
     closed_emptied s h k c m is Full (record { code = 1008; reason = OutboxFull }) k.conn refl
     (does_sound (told_state s k c Full) (told_is_sound s h k c m is Full) (told_frames s k c Full) (told_here s h k c m is Full) (ended_step Full))
 
-ending_emptied : (s : State) → IsSound s → (k : Peer) (c : ℕ) → In k s.peers → k.conn ≡ Some c → is_emptied s k c ≡ true → (o : Option End) → ended s.history c ≡ o → IsEmptied k c s (ends_as s (given_frames (unwritten s k c) k) o).state
+ending_emptied : (s : State) → IsSound s → (k : Peer) (c : ℕ) → In k s.peers → k.conn ≡ Some c → is_emptied s k c ≡ true → (o : Option End) → ended s.history c ≡ o
+    → IsEmptied k c s (ends_as s (given_frames (unwritten s k c) k) o).state
 ending_emptied s h k c m is due None live = live_emptied s h k c m is live
 ending_emptied s h k c m is due (Some ending) over = over_emptied s h k c m is due ending
 
@@ -248,19 +257,25 @@ emptied_next : (x : OnConnection) (xs : List OnConnection) (o u : ScriptOutcome)
 emptied_next x xs o u r e = record {
   sound = e.sound;
   one = λ n. (r.one n).1;
-  there = λ y i. (let t = r.there y (inr i) in (e.stay y.peer t.0 (other_name y.peer.name x.peer.name (In_from_all (λ (q : Peer). q.name ≢ x.peer.name) y.peer (peers_on xs) ((r.one x.peer.name).0 refl) (map_in (λ (z : OnConnection). z.peer) xs y i))), t.1));
+  there = λ y i. (let t = r.there y (inr i) in (
+    e.stay y.peer t.0 (other_name y.peer.name x.peer.name
+        (In_from_all (λ (q : Peer). q.name ≢ x.peer.name) y.peer (peers_on xs) ((r.one x.peer.name).0 refl) (map_in (λ (z : OnConnection). z.peer) xs y i))),
+    t.1,
+  ));
   due = λ q d m f. by q d f (e.own q m);
 }
   where
     here : In x.peer o.state.peers × (x.peer.conn ≡ Some x.conn)
     here = r.there x (inl refl)
 
-    was : (q : Peer) (d : ℕ) → q.conn ≡ Some d → In q o.state.peers → is_named x.peer.name q ≡ false → In (on d q) (x ∷ xs) ⊎ (is_emptied o.state q d ≡ false) → In (on d q) xs ⊎ (is_emptied u.state q d ≡ false)
+    was : (q : Peer) (d : ℕ) → q.conn ≡ Some d → In q o.state.peers → is_named x.peer.name q ≡ false → In (on d q) (x ∷ xs) ⊎ (is_emptied o.state q d ≡ false) → In (on d q) xs
+        ⊎ (is_emptied u.state q d ≡ false)
     was q d f i isnt (inl (inl same)) = absurd (not_named x.peer q isnt (ap (λ (y : OnConnection). y.peer.name) (sym same)))
     was q d f i isnt (inl (inr n)) = inl n
     was q d f i isnt (inr rest) = inr (e.same q d (λ g. not_named x.peer q isnt (ap name_of (r.sound.conns q x.peer d i here.0 f (here.1 ∙ ap Some g)))) ∙ rest)
 
-    by : (q : Peer) (d : ℕ) → q.conn ≡ Some d → (In q o.state.peers × (is_named x.peer.name q ≡ false)) ⊎ ((n : ℕ) → q.conn ≡ Some n → is_emptied u.state q n ≡ false) → In (on d q) xs ⊎ (is_emptied u.state q d ≡ false)
+    by : (q : Peer) (d : ℕ) → q.conn ≡ Some d → (In q o.state.peers × (is_named x.peer.name q ≡ false)) ⊎ ((n : ℕ) → q.conn ≡ Some n → is_emptied u.state q n ≡ false) → In (on d q) xs
+        ⊎ (is_emptied u.state q d ≡ false)
     by q d f (inl g) = was q d f g.0 g.1 (r.due q d g.0 f)
     by q d f (inr rest) = inr (rest d f)
 
@@ -308,7 +323,8 @@ joining_in ks (c ∷ cs) x k (inl same) m e =
     let f = λ (j : Peer). on c.number j in
     let number : c.number ≡ x.number = ap (λ (y : Connection). y.number) same in
     let among : In k (filter (has_joined_as c.number) ks) = In_kept (has_joined_as c.number) k ks m (conn_has c.number k (e ∙ ap Some (sym number))) in
-    In-left (on x.number k) (map f (filter (has_joined_as c.number) ks)) (in_order ks cs) (subst (λ (n : ℕ). In (on n k) (map f (filter (has_joined_as c.number) ks))) number (map_in f (filter (has_joined_as c.number) ks) k among))
+    In-left (on x.number k) (map f (filter (has_joined_as c.number) ks)) (in_order ks cs)
+    (subst (λ (n : ℕ). In (on n k) (map f (filter (has_joined_as c.number) ks))) number (map_in f (filter (has_joined_as c.number) ks) k among))
 joining_in ks (c ∷ cs) x k (inr i) m e =
     In-right (on x.number k) (map (λ (j : Peer). record { conn = c.number; peer = j }) (filter (has_joined_as c.number) ks)) (in_order ks cs) (joining_in ks cs x k i m e)
 

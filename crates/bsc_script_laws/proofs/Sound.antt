@@ -1,5 +1,7 @@
 -- What holds of each state that lines leave, by the definition alone, and what a call leaves of it.
-use Rattle.std.proofs.Common.{◌≡◌, ◌≢◌, ◌⊎◌, inl, inr, ℕ, ◌≤◌, ◌==◌, nat_le, Bool, true, false, not, ◌||◌, cond, List, [], ◌∷◌, ◌++◌, filter, find, fold, length, map, Option, Some, None, MatchOption, is_none, true≢false, refl, ap, sym, ◌∙◌, subst, arith, append_assoc}
+-- It serves the clauses of `a_line_goes_on` and `a_script_is_of_one_hub`.
+use Rattle.std.proofs.Common.{◌≡◌, ◌≢◌, ◌⊎◌, inl, inr, ℕ, ◌≤◌, ◌==◌, nat_le, Bool, true, false, not, ◌||◌, cond, List, [], ◌∷◌, ◌++◌, filter, find, fold, length, map, Option, Some}
+use Rattle.std.proofs.Common.{None, MatchOption, is_none, true≢false, refl, ap, sym, ◌∙◌, subst, arith, append_assoc}
 use Rattle.std.specs.List.{list_any, list_all}
 use Rattle.std.proofs.lemmas.Bool.{and_from, eq-eqb, false_from_ne_true, le-leb}
 use Rattle.bsc_history.specs.declared.limits.About.{About}
@@ -159,7 +161,8 @@ looks_on s h call k c m is = by (newest_of c (looks_in s call) (looked s.history
     before = (h.peers k m).behind c is
 
     by : ((l : Look) × In l (looks_in s call) × (l.conn ≡ c) × (fold (newer c) (looked s.history c) (looks_in s call) ≡ l.taken))
-        ⊎ ((is_among c (map (λ l. l.conn) (looks_in s call)) ≡ false) × (fold (newer c) (looked s.history c) (looks_in s call) ≡ looked s.history c)) → looked (s.history ++ entry_in s call ∷ []) c ≤ length k.frames
+        ⊎ ((is_among c (map (λ l. l.conn) (looks_in s call)) ≡ false) × (fold (newer c) (looked s.history c) (looks_in s call) ≡ looked s.history c))
+        → looked (s.history ++ entry_in s call ∷ []) c ≤ length k.frames
     by (inl r) =
         let found : r.0.taken ≡ written_for s r.0.conn = In_from_all (λ (l : Look). l.taken ≡ written_for s l.conn) r.0 (looks_in s call) (all_found s s (looks_at s.history call) (λ d. refl)) r.1 in
         as_many (looked (s.history ++ entry_in s call ∷ []) c) (length k.frames) (more ∙ r.3 ∙ found ∙ ap (written_for s) r.2 ∙ written_is s h k c m is)

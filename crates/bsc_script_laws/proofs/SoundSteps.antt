@@ -1,5 +1,7 @@
 -- What keeps a state sound: a call, a peer that is changed, closed, opened or told something, one that leaves or joins.
-use Rattle.std.proofs.Common.{◌≡◌, ◌≢◌, ◌⊎◌, inl, inr, ℕ, ◌≤◌, ◌==◌, Bool, true, false, not, List, [], ◌∷◌, ◌++◌, filter, length, Option, Some, None, option_to_list, true≢false, refl, ap, sym, ◌∙◌, subst, append-nil}
+-- It serves the clauses of `a_line_goes_on` and `a_script_is_of_one_hub`.
+use Rattle.std.proofs.Common.{◌≡◌, ◌≢◌, ◌⊎◌, inl, inr, ℕ, ◌≤◌, ◌==◌, Bool, true, false, not, List, [], ◌∷◌, ◌++◌, filter, length, Option, Some, None, option_to_list, true≢false}
+use Rattle.std.proofs.Common.{refl, ap, sym, ◌∙◌, subst, append-nil}
 use Rattle.std.specs.List.{list_any}
 use Rattle.std.proofs.lemmas.Bool.{and_from, both_ways, eq-eqb, eqb-true, false_from_ne_true}
 use Rattle.bsc_octets.specs.declared.identity.Identity.{Identity}
@@ -20,7 +22,7 @@ use Rattle.bsc_history.proofs.More.{Legal-more, unleft-more, unleft-same}
 use Rattle.bsc_checks.specs.declared.phase.Phase.TheVariants.{AwaitingRequest}
 use Rattle.bsc_accept.specs.declared.event.Event.{Event}
 use Rattle.bsc_accept.specs.declared.event.Event.TheVariants.{Joined as HasJoined}
-use Rattle.bsc_accept.specs.declared.farewell.Farewell.{Farewell}
+use Rattle.bsc_accept.specs.declared.pending_disconnect.PendingDisconnect.{PendingDisconnect}
 use Rattle.bsc_accept.specs.Kept.{moved}
 use Rattle.bsc_accept.specs.Past.{Standing, awaiting_request, connected, disconnecting, farewell_at, phase, phase_named, standing, until_farewell}
 use Rattle.bsc_accept.proofs.Looking.{standing-more}
@@ -44,7 +46,8 @@ use Rattle.bsc_script_laws.proofs.Sound.{HasPeer, IsSound, IsSoundPeer, after_ca
 -- ---- what keeps a state sound
 
 -- A call by which nobody leaves and nobody joins.
-pub quiet_sound : (s : State) → IsSound s → (call : Call) → may_call s.about s.history 0 call ≡ true → connection_of (entry_in s call) ≡ None → ((c : ℕ) → leaves c (entry_in s call) ≡ false) → IsSound (called s call)
+pub quiet_sound : (s : State) → IsSound s → (call : Call) → may_call s.about s.history 0 call ≡ true → connection_of (entry_in s call) ≡ None → ((c : ℕ) → leaves c (entry_in s call) ≡ false)
+    → IsSound (called s call)
 quiet_sound s h call may none stays =
     let lawful = lawful_of s h call may in
     record {
@@ -168,7 +171,13 @@ opened_sound s h name closed = record {
 
     sound : (q : Peer) → In q s.peers ⊎ In q (new ∷ []) → IsSoundPeer s.about s.history q
     sound q (inl i) = h.peers q i
-    sound q (inr (inl e)) = subst (IsSoundPeer s.about s.history) e (record { own = λ c is. absurd (nothing_some c is); begins = λ c is. absurd (nothing_some c is); behind = λ c is. absurd (nothing_some c is); waits = λ w. refl; none = λ n. refl })
+    sound q (inr (inl e)) = subst (IsSoundPeer s.about s.history) e (record {
+      own = λ c is. absurd (nothing_some c is);
+      begins = λ c is. absurd (nothing_some c is);
+      behind = λ c is. absurd (nothing_some c is);
+      waits = λ w. refl;
+      none = λ n. refl;
+    })
     sound q (inr (inr n)) = absurd n
 
     unjoined : (q : Peer) (c : ℕ) → In q (new ∷ []) → q.conn ≡ Some c → ⊥
@@ -186,7 +195,7 @@ before_event : (g : Standing) (e : Event) → phase_named (moved g e) ≡ Awaiti
 before_event awaiting_request e h = refl
 before_event connected e h = by (farewell_at e) h
   where
-    by : (o : Option Farewell) → phase_named (until_farewell o) ≡ AwaitingRequest → phase_named connected ≡ AwaitingRequest
+    by : (o : Option PendingDisconnect) → phase_named (until_farewell o) ≡ AwaitingRequest → phase_named connected ≡ AwaitingRequest
     by None f = f
     by (Some x) f = cc
 before_event (disconnecting f) e h = cc

@@ -1,4 +1,5 @@
 -- A script that is only read, of which the laws hold: A and B join, A sends to B, and the hub stops. No code plays it.
+-- No clause needs it: worked examples.
 use Rattle.std.proofs.Common.{◌≡◌, ℕ, List, [], ◌∷◌, filter_map, codes, length, Option, Some, None, option_map, refl}
 use Rattle.uuid.proofs.OnLiterals.{uuid_on_literals}
 use Rattle.bsc_history.specs.declared.limits.About.{About}
@@ -12,7 +13,12 @@ use Rattle.bsc_script_laws.proofs.OneHub.{one_hub}
 -- a hub of 256 rows, with 64 frames to an outbox
 abbrev about : About
 about = record {
-  hub = record { vmac = record { 0 = 0x02 ∷ 0x00 ∷ 0x00 ∷ 0x00 ∷ 0x00 ∷ 0xFF ∷ [] }; device = record { 0 = 0x00 ∷ 0x11 ∷ 0x22 ∷ 0x33 ∷ 0x44 ∷ 0x55 ∷ 0x66 ∷ 0x77 ∷ 0x88 ∷ 0x99 ∷ 0xAA ∷ 0xBB ∷ 0xCC ∷ 0xDD ∷ 0xEE ∷ 0xFF ∷ [] }; max_bvlc = 1600; max_npdu = 1497 };
+  hub = record {
+    vmac = record { 0 = 0x02 ∷ 0x00 ∷ 0x00 ∷ 0x00 ∷ 0x00 ∷ 0xFF ∷ [] };
+    device = record { 0 = 0x00 ∷ 0x11 ∷ 0x22 ∷ 0x33 ∷ 0x44 ∷ 0x55 ∷ 0x66 ∷ 0x77 ∷ 0x88 ∷ 0x99 ∷ 0xAA ∷ 0xBB ∷ 0xCC ∷ 0xDD ∷ 0xEE ∷ 0xFF ∷ [] };
+    max_bvlc = 1600;
+    max_npdu = 1497;
+  };
   limits = record { rows = 256; outbox = 64; calls = 4503599627370496; callers = 4611686018427387904 };
 }
 

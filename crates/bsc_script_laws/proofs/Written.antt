@@ -1,5 +1,7 @@
 -- The frames that are new of a name stand together in the text of the line, in order.
-use Rattle.std.proofs.Common.{◌≡◌, ◌≢◌, ℕ, nat_le, nat_lt, Bool, true, false, not, ◌&&◌, cond, List, [], ◌∷◌, ◌++◌, codes, drop, filter, find, flat_map, fold, length, map, Option, Some, None, is_some, refl, ap, sym, ◌∙◌, subst, append_assoc, append-nil, true≢false}
+-- It serves the clauses of `a_line_goes_on`.
+use Rattle.std.proofs.Common.{◌≡◌, ◌≢◌, ℕ, nat_le, nat_lt, Bool, true, false, not, ◌&&◌, cond, List, [], ◌∷◌, ◌++◌, codes, drop, filter, find, flat_map, fold, length, map, Option}
+use Rattle.std.proofs.Common.{Some, None, is_some, refl, ap, sym, ◌∙◌, subst, append_assoc, append-nil, true≢false}
 use Rattle.std.specs.List.{AllByRecursion}
 use Rattle.bsc_octets.specs.declared.identity.Identity.{Identity}
 use Rattle.bsc_history.specs.declared.connection.Connection.{Connection}
@@ -44,7 +46,8 @@ HaveFrames n F s = AllByRecursion (HasFrames n F) s.peers
 
 -- ---- the open names
 
-frames_mapped : (n : List ℕ) (F : List (List ℕ)) (j : Peer) (ks : List Peer) → HasFrames n F j → AllByRecursion (HasFrames n F) ks → AllByRecursion (HasFrames n F) (map (λ p. cond (is_named j.name p) j p) ks)
+frames_mapped : (n : List ℕ) (F : List (List ℕ)) (j : Peer) (ks : List Peer) → HasFrames n F j → AllByRecursion (HasFrames n F) ks
+    → AllByRecursion (HasFrames n F) (map (λ p. cond (is_named j.name p) j p) ks)
 frames_mapped n F j [] has h = tt
 frames_mapped n F j (p ∷ ks) has h = (by (is_named j.name p), frames_mapped n F j ks has h.1)
   where
@@ -295,7 +298,8 @@ emptied_new n F o k c has h = by (is_named n k) refl
         let own : k.name ≡ n = same_name k.name n is in
         λ j found. record {
           new = frames;
-          frames = found_frames n n (k.frames ++ frames) j last.state.peers (own_ended n o.state (given_frames frames k) (ended o.state.history c) own) found (found_name n j last.state.peers found) ∙ ap (λ (l : List (List ℕ)). l ++ frames) (has own);
+          frames = found_frames n n (k.frames ++ frames) j last.state.peers (own_ended n o.state (given_frames frames k) (ended o.state.history c) own) found
+              (found_name n j last.state.peers found) ∙ ap (λ (l : List (List ℕ)). l ++ frames) (has own);
           head = o.said;
           tail = last.said;
           text = sym (append_assoc o.said (frame_lines k.name frames) last.said) ∙ ap (λ (m : List ℕ). o.said ++ frame_lines m frames ++ last.said) own;
@@ -308,7 +312,8 @@ either_new : (n : List ℕ) (F : List (List ℕ)) (b : Bool) (x y : ScriptOutcom
 either_new n F true x y f g = f
 either_new n F false x y f g = g
 
-all_emptied_new : (n : List ℕ) (F : List (List ℕ)) (xs : List OnConnection) (o : ScriptOutcome) → AllByRecursion (λ (x : OnConnection). HasFrames n F x.peer) xs → WritesNew n F o → WritesNew n F (fold emptied_one o xs)
+all_emptied_new : (n : List ℕ) (F : List (List ℕ)) (xs : List OnConnection) (o : ScriptOutcome) → AllByRecursion (λ (x : OnConnection). HasFrames n F x.peer) xs → WritesNew n F o
+    → WritesNew n F (fold emptied_one o xs)
 all_emptied_new n F [] o has h = h
 all_emptied_new n F (x ∷ xs) o has h =
     all_emptied_new n F xs (emptied_one o x) has.1
@@ -355,7 +360,8 @@ are_written n k j said name h =
     let new : drop (length k.frames) j.frames ≡ h.new = ap (drop (length k.frames)) h.frames ∙ drop-front k.frames h.new in
     (h.head, h.tail, h.text ∙ ap (λ (m : List ℕ). h.head ++ frame_lines m h.new ++ h.tail) (sym name) ∙ ap (λ (l : List (List ℕ)). h.head ++ frame_lines j.name l ++ h.tail) (sym new))
 
-pub line_written : (s : State) → Apart name_of s.peers → (line : Line) (o : ScriptOutcome) → run_line s line ≡ Some o → (name : List ℕ) (k j : Peer) → peer_of s name ≡ Some k → peer_of o.state name ≡ Some j → AreWritten k j o.said
+pub line_written : (s : State) → Apart name_of s.peers → (line : Line) (o : ScriptOutcome) → run_line s line ≡ Some o → (name : List ℕ) (k j : Peer) → peer_of s name ≡ Some k
+    → peer_of o.state name ≡ Some j → AreWritten k j o.said
 unfolding run_line
 line_written s apart line o e name k j before after =
     let u = then_emptied (line_outcome s line) o e in

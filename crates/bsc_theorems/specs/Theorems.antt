@@ -110,7 +110,7 @@ pub record OneLegalHistory : Type 0 where
   -- Of what two passes have seen one begins with the other, also where they never met.
   pub compared : turn.OneHistory.RuleCompares DeskStands hub.Passing.fixed_of
   -- What is a caller's own stays so by each call but its leave, and so does its address.
-  pub own_stays : (h : Hub) (p q : Pass) (drew : ℕ) (took : List turn.declared.view.Ended.Ended) (made : Option hub.Passing.Placed) (c : ℕ) (v : Vmac) →
+  pub own_stays : (h : Hub) (p q : Pass) (drew : ℕ) (took : List turn.declared.view.EndedCaller.EndedCaller) (made : Option hub.Passing.Placed) (c : ℕ) (v : Vmac) →
       hub.Passing.IsCaller h p → hub.Passing.Went h p drew took made q → hub.Passing.StaysBy made c → hub.Passing.IsOwnAs p c v → hub.Passing.IsOwnAs q c v
   -- Where a pass has all callers of its hub, each entry that it has seen is of one of them: nobody else called.
   pub is_whole : (h : Hub) (q : Pass) → hub.Passing.IsCaller h q → hub.Whole.IsWhole q
@@ -136,7 +136,7 @@ pub record OperationsAreTheModel : Type 0 where
   pub accepting_ticks : (s : Start) (E : List Event) (now : ℕ)
       → (accepting.Past.phase E ≡ AwaitingRequest → (accepting.Steps.closes (accepting.Steps.step s E (Event.Tick now)) ≡ true) ↔ (s.times.connect_wait ≤ now - s.at))
       × (accepting.Past.phase E ≡ Connected → (accepting.Steps.closes (accepting.Steps.step s E (Event.Tick now)) ≡ true) ↔ (2 * s.times.heartbeat ≤ now - accepting.Past.last_message s E))
-      × ((f : accepting.declared.farewell.Farewell.Farewell) → accepting.Past.standing E ≡ accepting.Past.disconnecting f
+      × ((f : accepting.declared.pending_disconnect.PendingDisconnect.PendingDisconnect) → accepting.Past.standing E ≡ accepting.Past.disconnecting f
       → (accepting.Steps.closes (accepting.Steps.step s E (Event.Tick now)) ≡ true) ↔ (s.times.disconnect_wait ≤ now - f.since))
   -- Every message puts the idle closing off, whatever the verdict on it.
   pub heard : (s : Start) (E : List Event) (now : ℕ) (v : Verdict) → accepting.Past.last_message s (E ++ Event.Message now v ∷ []) ≡ now

@@ -8,7 +8,7 @@ use Rattle.bsc_history.specs.declared.entry.Entry.{Entry}
 use Rattle.bsc_history.specs.declared.mark.Stamped.{Stamped}
 use Rattle.bsc_turn.specs.declared.pass.Pass.{Pass}
 use Rattle.bsc_turn.specs.declared.phase.SeatPhase.TheVariants.{Outside}
-use Rattle.bsc_turn.specs.declared.view.Ended.{Ended}
+use Rattle.bsc_turn.specs.declared.view.EndedCaller.{EndedCaller}
 use Rattle.bsc_turn.specs.declared.view.View.{View}
 use Rattle.bsc_turn.specs.Callers.{AreUpTo, NobodyElse, Rises, callers_in, has}
 use Rattle.bsc_turn.specs.Effects.{IsConsistent}
@@ -20,7 +20,7 @@ use Rattle.bsc_hub.specs.Passing.{fixed_of}
 
 -- ---- lists
 
-pub nothing_at : (i : ℕ) (e : Ended) → get_elem? {A = Ended} [] i ≡ some e → ⊥
+pub nothing_at : (i : ℕ) (e : EndedCaller) → get_elem? {A = EndedCaller} [] i ≡ some e → ⊥
 nothing_at i e at = cc
 
 pub none_rise : Rises []

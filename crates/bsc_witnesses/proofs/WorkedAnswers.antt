@@ -1,4 +1,5 @@
 -- Answers of calls, written out: which is due and which isn't, what entry they make, and what parts of the edge tell by them.
+-- No clause needs it: worked examples.
 use Rattle.std.proofs.Common.{◌≡◌, ℕ, ◌<◌, ◌≤◌, ⊎_elim, true, false, List, [], ◌∷◌, Option, Some, None, Ok, Err, refl, ap, arith, inl, lit<, lit≤}
 use Rattle.bsc_history.specs.declared.limits.About.{About}
 use Rattle.bsc_history.specs.declared.reply.Reply.{Reply}

@@ -1,4 +1,5 @@
 -- Runs of the command `audit`, written out: of a journal of a hub that made no entry, and of one for which memory runs out.
+-- No clause needs it: worked examples.
 use Rattle.std.proofs.Common.{◌≡◌, ℕ, ⊎_elim, inl, inr, List, [], ◌++◌, Option, Some, refl, lit≤}
 use Rattle.std.specs.Prelude.{codes}
 use Rattle.std.specs.Io.KnownBytes.{Appends}

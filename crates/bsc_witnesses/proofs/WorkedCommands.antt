@@ -1,5 +1,6 @@
 -- What there is outside the commands, and with which statuses they end, written out.
-use Rattle.std.proofs.Common.{◌≡◌, ℕ, ◌<◌, ⊎_elim, ◌⊎◌, inl, inr, List, [], ◌∷◌, length, Option, Some, None, refl, sym, ap, ◌∙◌, arith, lit<, lit≤}
+-- No clause needs it: worked examples.
+use Rattle.std.proofs.Common.{◌≡◌, ℕ, ◌<◌, ⊎_elim, ◌⊎◌, inl, inr, false, List, [], ◌∷◌, length, Option, Some, None, refl, sym, ap, ◌∙◌, arith, lit<, lit≤}
 use Rattle.bsc_node.specs.declared.node_event.NodeEvent.TheVariants.{Finish}
 use Rattle.bsc_node_run.specs.declared.due.Due.{Due}
 use Rattle.bsc_node_run.specs.declared.parts.NodeParts.{NodeParts}
@@ -7,14 +8,15 @@ use Rattle.bsc_node_run.specs.Worlds.{Dialling}
 use Rattle.bsc_node_laws.specs.Courses.{FinishCame}
 use Rattle.bsc_player.specs.LastLines.{read_line, words_line}
 use Rattle.bsc_serve.specs.declared.parts.ServingParts.{ServingParts}
+use Rattle.bsc_serve.specs.Asking.{Asking, asking_by, look_at}
 use Rattle.bsc_serve.specs.Worlds.{Stock}
 use Rattle.bsc_hub_command.specs.declared.asked.HubAsked.{HubAsked}
 use Rattle.bsc_hub_command.specs.Served.{Door, HasFailed, door_by, stock_by, terms_in, world_by}
 use Rattle.bsc_node_command.specs.Comes.{AcceptorWorld, acceptor_world, node_world}
-use Rattle.bsc_words.specs.Words.{audit, check, replay}
+use Rattle.bsc_cli.specs.Words.{audit, check, hub, replay}
 use Rattle.bsc_commands.specs.Statuses.{EndsBy}
 use Rattle.bsc_commands.specs.declared.outside.Outside.{Outside}
-use Rattle.bsc_commands.specs.Outside.{TouchesOnly}
+use Rattle.bsc_commands.specs.Outside.{LeavesAsker, TouchesOnly}
 use Rattle.bsc_witnesses.proofs.Pieces.{unlike}
 
 -- ---- statuses
@@ -51,6 +53,16 @@ reads x = refl
 reads_unasked : (x : There) → x.source ≡ 3 → TouchesOnly None x (record x { source = 4 }) → ⊥
 reads_unasked x three h = unlike 4 3 refl (ap (λ (y : There). y.source) h ∙ three)
 
+-- An asker is left alone where no hub is made.
+leaves : LeavesAsker {H = ℕ} {Q = ℕ} (Some replay) None 3 3
+leaves = refl
+
+leaves_unmade : LeavesAsker {H = ℕ} {Q = ℕ} (Some (hub [] None None None)) None 3 4 → ⊥
+leaves_unmade h = unlike 4 3 refl (h refl)
+
+asks_made : LeavesAsker {H = ℕ} {Q = ℕ} (Some (hub [] None None None)) (Some 1) 3 4
+asks_made none = absurd (let bad : ◌≡◌ {A = Option ℕ} (Some 1) None = none in cc)
+
 -- ---- what parts tell
 
 abbrev a_door : Door ℕ
@@ -71,10 +83,19 @@ stock = refl
 other_stock : (stock_by {P = ℕ} {L = ℕ} {C = ℕ} {N = ℕ} (λ p. Some []) (λ p. None) (λ p. []) (λ p. p) 5).unstarted ≡ 6 → ⊥
 other_stock h = unlike 5 6 refl h
 
+abbrev asking : Asking
+asking = asking_by {Q = ℕ} (λ q. Some (look_at [] false ∷ [])) (λ q. q) (λ q. None) 6
+
+asks_so : asking ≡ record { looks = Some (record { asks = false; entered = [] } ∷ []); asked = 6; endings = None }
+asks_so = refl
+
+asks_otherwise : asking.asked ≡ 7 → ⊥
+asks_otherwise h = unlike 6 7 refl h
+
 abbrev parts : ServingParts ℕ ℕ ℕ ℕ
 parts = record { acceptor = 7; clock = 0; spawner = 5; journals = 9 }
 
-world : world_by {A = ℕ} {C = ℕ} {P = ℕ} {J = ℕ} {L = ℕ} {N = ℕ} (λ a. a_door) (λ p. a_stock) (λ j. Some []) (λ j. j) parts (Some []) ≡ record {
+world : world_by {A = ℕ} {C = ℕ} {P = ℕ} {J = ℕ} {L = ℕ} {N = ℕ} (λ a. a_door) (λ p. a_stock) (λ j. Some []) (λ j. j) parts (Some []) asking ≡ record {
   links = Some (7 ∷ []);
   came = Some [];
   waits = None;
@@ -88,10 +109,11 @@ world : world_by {A = ℕ} {C = ℕ} {P = ℕ} {J = ℕ} {L = ℕ} {N = ℕ} (λ
   begun = Some [];
   unbegun = 9;
   written = Some [];
+  asking = asking;
 }
 world = refl
 
-other_world : (world_by {A = ℕ} {C = ℕ} {P = ℕ} {J = ℕ} {L = ℕ} {N = ℕ} (λ a. a_door) (λ p. a_stock) (λ j. Some []) (λ j. j) parts (Some [])).unbegun ≡ 8 → ⊥
+other_world : (world_by {A = ℕ} {C = ℕ} {P = ℕ} {J = ℕ} {L = ℕ} {N = ℕ} (λ a. a_door) (λ p. a_stock) (λ j. Some []) (λ j. j) parts (Some []) asking).unbegun ≡ 8 → ⊥
 other_world h = unlike 9 8 refl h
 
 failed : HasFailed {N = ℕ} (λ journal. journal) (Some 3)

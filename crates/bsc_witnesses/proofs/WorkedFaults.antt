@@ -1,4 +1,5 @@
 -- Counts of faults, calls that fail, what is told and what is held, written out.
+-- No clause needs it: worked examples.
 use Rattle.std.proofs.Common.{◌≡◌, ℕ, zero, suc, ◌<◌, ◌≤◌, true, false, ⊎_elim, inl, inr, List, [], ◌∷◌, take, Option, Some, None, Ok, Err, refl, ap, arith, lit<, lit≤}
 use Rattle.std.specs.Prelude.{Vec, slice_index}
 use Rattle.std.specs.declared.alloc.Global.{Global}

@@ -1,4 +1,5 @@
 -- A run of the command `hub`, written out: the hub is made, its journal can't be begun, and so it is stopped.
+-- No clause needs it: worked examples.
 use Rattle.std.proofs.Common.{◌≡◌, ℕ, List, [], ◌∷◌, Option, Some, None, Result, Ok, inl, refl, sym, subst, ◌∙◌, lit<}
 use Rattle.std.specs.declared.alloc.Global.{Global}
 use Rattle.std.specs.declared.sync.Arc.{Arc}
@@ -90,6 +91,7 @@ outside unbegun = record {
   begun = None;
   unbegun = unbegun;
   written = Some [];
+  asking = record { looks = Some []; asked = 0; endings = Some [] };
 }
 
 module _ (hub : Arc Hub Global) (asked : HubTerms) (is : about_of (arc_value hub) ≡ the_hub)
@@ -144,7 +146,7 @@ module _ (hub : Arc Hub Global) (asked : HubTerms) (is : about_of (arc_value hub
     went = inl (record {
       none = refl;
       begun = tt;
-      untouched = record { links = refl; came = refl; waits = refl; quiets = refl; port = refl; faults = refl; jobs = refl; given_back = refl; out = refl; unstarted = refl };
+      untouched = record { links = refl; came = refl; waits = refl; quiets = refl; port = refl; faults = refl; jobs = refl; given_back = refl; out = refl; unstarted = refl; asking = refl };
       stops = alone;
       says = inl (refl, inl (lit< tt), refl);
     });

@@ -1,4 +1,5 @@
 -- The job of a session, written out: one that may make no receive, so that its link is closed at once; and what is left of none.
+-- No clause needs it: worked examples.
 use Rattle.std.proofs.Common.{◌≡◌, ℕ, ◌<◌, ◌≤◌, true, false, ⊎_elim, List, [], ◌∷◌, ◌++◌, Option, Some, None, refl, sym, ◌∙◌, arith, lit≤, append-nil}
 use Rattle.bsc_outside.specs.Faults.{HasRisen}
 use Rattle.bsc_accept.specs.declared.reason.Reason.TheVariants.{Nothing as NoReason}

@@ -1,5 +1,6 @@
 -- The laws of a hub's history, one by one: of each a history that keeps it, or what it comes to there; and one that breaks it, and
 -- so is no history of a hub. Laws that hold of any list of entries are broken by none: of these something else is shown that isn't so.
+-- No clause needs it: worked examples.
 use Rattle.std.proofs.Common.{◌≡◌, ℕ, ◌≤◌, Bool, true, false, List, [], ◌∷◌, ◌++◌, length, Option, Some, refl, sym, ap, subst, ◌∙◌, arith}
 use Rattle.std.specs.Prelude.{IsTrue}
 use Rattle.std.specs.List.{AllByRecursion}

@@ -1,4 +1,5 @@
 -- Machines, connectors, slots, ledgers and worlds at their start and one event later, written out: what they stand for, and what they don't.
+-- No clause needs it: worked examples.
 use Rattle.std.proofs.Common.{◌≡◌, true, false, [], ◌∷◌, Option, Some, None, refl, sym, ap, ◌∙◌, arith, lit<, replicate}
 use Rattle.bsc_octets.specs.declared.identity.Identity.{Identity}
 use Rattle.bsc_history.specs.declared.counts.Counts.{Counts}

@@ -1,5 +1,6 @@
 -- A run of the command `node` whose settings can't be read, written out: what it comes to, and what it doesn't. And what settings
 -- and the words of the program say.
+-- No clause needs it: worked examples.
 use Rattle.std.proofs.Common.{◌≡◌, ℕ, ◌≤◌, ⊎_elim, inl, List, [], map, pos, Option, Some, None, refl, sym, ap, ◌∙◌, arith, lit<, lit≤}
 use Rattle.std.specs.Prelude.{codes, string_bytes}
 use Rattle.std.specs.Io.KnownBytes.{Appends}
@@ -15,9 +16,11 @@ use Rattle.bsc_settings.specs.Table.{RowTakes, port_row, vmac_row}
 use Rattle.bsc_node_command.specs.Comes.{CommandWorld, NodeFiles, RunsFiles, RunsScript, IsUntouched}
 use Rattle.bsc_node_command.specs.Lines.{settings_line}
 use Rattle.bsc_node_command.specs.Settled.{IsRefusedAsNode, IsSettled, Unread, Unsettled}
-use Rattle.bsc_words.specs.declared.read.ReadWords.{ReadWords}
-use Rattle.bsc_words.specs.Read.{asked_in}
-use Rattle.bsc_words.specs.Words.{AskedOf, asked_by, audit}
+use Rattle.bsc_node_command.specs.Tested.{TestWorld, TestsNode, TestsScript}
+use Rattle.bsc_hub_command.specs.Tested.{TestsHub}
+use Rattle.bsc_cli.specs.declared.read.ReadWords.{ReadWords}
+use Rattle.bsc_cli.specs.Read.{asked_in}
+use Rattle.bsc_cli.specs.Words.{AskedOf, asked_by, audit}
 use Rattle.bsc_witnesses.proofs.Pieces.{unlike}
 
 -- ---- a run that reads no settings
@@ -83,6 +86,26 @@ not_refused before after h =
     (λ (z : (text : List ℕ) × (name : List ℕ) × nothing text × IsRefusedAsNode text name × SaysOrRunsOut 5 5 before.beside.written after.beside.written (settings_line name)). z.2)
     x.1)
     (λ (w : (v : NodeSettings) × IsSettled nothing v × RunsScript silent no_word v nothing before after 5). w.1.held)
+    h
+
+-- ---- settings that are tried, and can't be read
+
+hub_tried : TestsHub nothing 0 1 3 (Some []) (Some read_line)
+hub_tried = inl (inl (inl (lit< tt), inl (refl, refl)))
+
+node_tried : TestsNode no_files (record { unread = 0; written = Some [] }) (record { unread = 1; written = Some read_line }) 3
+node_tried = inl (inl (inl (inl (lit< tt), inl (refl, refl))))
+
+-- The status isn't 5 here either.
+not_tried : (before after : TestWorld) → TestsNode no_files before after 5 → ⊥
+not_tried before after h =
+    ⊎_elim
+    (λ (x : Unsettled nothing before.unread after.unread 5 before.written after.written).
+    ⊎_elim
+    (λ (y : Unread before.unread after.unread 5 before.written after.written). not_unread before.unread after.unread before.written after.written y)
+    (λ (z : (text : List ℕ) × (name : List ℕ) × nothing text × IsRefusedAsNode text name × SaysOrRunsOut 5 5 before.written after.written (settings_line name)). z.2)
+    x)
+    (λ (w : (v : NodeSettings) × IsSettled nothing v × TestsScript v nothing before after 5). w.1.held)
     h
 
 -- ---- settings

@@ -1,4 +1,5 @@
 -- The two ends of an outbox, and the desk that pushes into it, written out: what is seen of them at first and after a call, and what isn't.
+-- No clause needs it: worked examples.
 use Rattle.std.specs.Prelude.{◌-◌, ◌^◌, min}
 use Rattle.std.proofs.Common.{◌≡◌, ℕ, ◌+◌, List, [], ◌∷◌, ◌++◌, length, map, Option, Some, None, refl, sym, ap, subst, ◌∙◌}
 use Rattle.std.specs.List.{AllByRecursion}

@@ -1,4 +1,5 @@
 -- A run of a node as its definition has it, written out: it starts and dials its hub, the dial fails, and at once it is to finish.
+-- No clause needs it: worked examples.
 use Rattle.std.proofs.Common.{◌≡◌, ℕ, true, false, List, [], ◌∷◌, ◌++◌, Option, Some, None, inl, refl, replicate, sym, subst, ◌∙◌, arith, lit<, lit≤}
 use Rattle.std.specs.Prelude.{◌≤◌, codes}
 use Rattle.bsc_direct.specs.Slots.{slots}
@@ -194,7 +195,16 @@ ends_as_told = refl
 
 -- Before its first turn a node doesn't wait.
 has_rested : HasRested (GoesAsDefined node) silent false script before (Some (0 ∷ [])) (Some []) (Some (0 ∷ []))
-has_rested = (0 ∷ [], 0 ∷ [], at_first, record { link = λ name. refl; arrived = refl; due = refl; waiting = refl; finished = refl; dialled = refl; held = refl }, (lit≤ tt, lit< tt, tt), refl, refl, (refl, inl (refl, refl)))
+has_rested = (
+  0 ∷ [],
+  0 ∷ [],
+  at_first,
+  record { link = λ name. refl; arrived = refl; due = refl; waiting = refl; finished = refl; dialled = refl; held = refl },
+  (lit≤ tt, lit< tt, tt),
+  refl,
+  refl,
+  (refl, inl (refl, refl)),
+)
 
 -- ---- what no run is
 

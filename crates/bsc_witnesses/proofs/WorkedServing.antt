@@ -1,6 +1,8 @@
 -- A hub that is served with two links, written out. There is one number for another caller. The job of the first link isn't
 -- started and comes back; for the second there is no number left. Then the hub is stopped.
-use Rattle.std.proofs.Common.{◌≡◌, ◌≢◌, ℕ, zero, suc, ◌+◌, ◌≤◌, List, [], ◌∷◌, ◌++◌, length, Option, Some, None, Result, Ok, inl, refl, sym, ap, subst, ◌∙◌, arith, lit≤, append-nil, length-append}
+-- No clause needs it: worked examples.
+use Rattle.std.proofs.Common.{◌≡◌, ◌≢◌, ℕ, zero, suc, ◌+◌, ◌≤◌, Bool, true, false, List, [], ◌∷◌, ◌++◌, length, Option, Some, None, Result, Ok, Err, inl, refl, sym, ap, subst, ◌∙◌}
+use Rattle.std.proofs.Common.{arith, lit<, lit≤, append-nil, length-append}
 use mathlib.Core.Option.{some, some-injective}
 use lib.ListN.{get_elem?}
 use Rattle.bsc_history.specs.declared.call.Call.TheVariants.{Stop}
@@ -13,7 +15,7 @@ use Rattle.bsc_history.specs.declared.told.Told.{Told}
 use Rattle.bsc_history.specs.Legality.{Legal}
 use Rattle.bsc_history.proofs.OnLiterals.{history_on_literals}
 use Rattle.bsc_turn.specs.declared.pass.Pass.{Pass}
-use Rattle.bsc_turn.specs.declared.view.Ended.{Ended as EndedCaller}
+use Rattle.bsc_turn.specs.declared.view.EndedCaller.{EndedCaller}
 use Rattle.bsc_turn.specs.declared.view.View.{View}
 use Rattle.bsc_turn.specs.Effects.{IsConsistent}
 use Rattle.bsc_turn.specs.Histories.{StartsWith, own_of}
@@ -24,13 +26,17 @@ use Rattle.bsc_hub.specs.Passing.{IsCaller, Passed, Went, about_of}
 use Rattle.bsc_session.specs.declared.job.SessionJob.{SessionJob}
 use Rattle.bsc_session.specs.declared.session_end.SessionEnd.{SessionEnd}
 use Rattle.bsc_serve.specs.declared.end.ServeEnd.{ServeEnd}
-use Rattle.bsc_serve.specs.declared.end.ServeEnd.TheVariants.{Done}
+use Rattle.bsc_serve.specs.declared.end.ServeEnd.TheVariants.{Done, Requested}
+use Rattle.bsc_serve.specs.declared.session_look.SessionLook.{SessionLook}
+use Rattle.bsc_serve.specs.Asking.{AskedSo, Asking, Looked, look_at}
 use Rattle.bsc_serve.specs.Events.{Event, arrived, links_of}
 use Rattle.bsc_edge.specs.declared.said.Said.{Said}
 use Rattle.bsc_serve.specs.Fates.{IsTurnedAway, returned, spent}
-use Rattle.bsc_serve.specs.Serving.{IsWithin, Loses, Serving, cut_links}
+use Rattle.bsc_serve.specs.Serving.{IsWithin, Loses, SaysStop, Serving, cut_links}
 use Rattle.bsc_serve.specs.Terms.{Terms}
 use Rattle.bsc_serve.specs.Worlds.{ServeWorld, ServedWorld, served_world}
+use Rattle.std.specs.Prelude.{map, replicate}
+use Rattle.std.proofs.lemmas.List.{length-map, length-replicate}
 use Rattle.bsc_witnesses.proofs.Pieces.{unlike, hub_of, lawful}
 use Rattle.bsc_witnesses.proofs.Passes.{view, knowing, is_pass, nobody_but_0, nothing_at, one_rises, one_up_to}
 
@@ -201,6 +207,40 @@ module _ (h : Hub) (is : about_of h ≡ small) (p : Pass) where
     has_line = tt;
     ends = (refl, refl, refl, (0, refl), refl);
   }
+
+-- ---- a stop that was asked for
+
+abbrev unasked : Asking
+unasked = record { looks = Some []; asked = 0; endings = Some [] }
+
+abbrev asked_once : Asking
+asked_once = record { looks = Some (look_at [] false ∷ look_at [] true ∷ []); asked = 1; endings = Some [] }
+
+-- The second look found that the stop is asked for, behind one wait for a link.
+asked_at_second : Looked [] (Some []) (Some (20 ∷ [])) unasked asked_once true
+asked_at_second = record { asks = 1; waited = refl; looks = refl; rose = λ e. inl (lit< tt); later = lit≤ tt; endings = refl }
+
+stops_on_request : AskedSo [] (Some []) (Some (20 ∷ [])) unasked asked_once (Requested (Some none) 0)
+stops_on_request = record { is_asked = true; looked = asked_at_second; ends = tt }
+
+says_counts : SaysStop (Some none) stop
+says_counts = (0, refl)
+
+-- A stop whose counts aren't told was made before.
+says_no_counts : SaysStop None stop → ⊥
+says_no_counts h = (let bad : ◌≡◌ {A = Result (Told Counts) AlreadyStopped} (Ok (record { at = 0; said = none })) (Err (record { at = h.0 })) = h.1 in cc)
+
+-- No link was awaited behind a look that asked.
+waits_on : Looked [] (Some []) (Some (20 ∷ 20 ∷ [])) unasked asked_once true → ⊥
+waits_on l = twice l.asks l.waited l.looks
+  where
+    twice : (n : ℕ) → ◌≡◌ {A = List ℕ} (20 ∷ 20 ∷ []) (replicate n 20) → (look_at [] false ∷ look_at [] true ∷ []) ≡ map (look_at []) (replicate n false ++ true ∷ []) → ⊥
+    twice n waited looks =
+        let asks : 2 ≡ n = ap (λ (l : List ℕ). length l) waited ∙ length-replicate n 20 in
+        let looked : 2 ≡ n + 1 =
+        ap (λ (l : List SessionLook). length l) looks ∙ length-map (replicate n false ++ true ∷ []) (look_at [])
+        ∙ length-append (replicate n false) (true ∷ []) ∙ ap (λ k. k + 1) (length-replicate n false) in
+        omega (arith, asks, looked)
 
 -- ---- what no serving comes to
 

@@ -1,5 +1,6 @@
 -- Octets that don't spell a message, envelopes and options that aren't whole, and a verdict that isn't given. Examples that hold
 -- stand in the crates of these words.
+-- No clause needs it: worked examples.
 use Rattle.std.proofs.Common.{ℕ, ◌<◌, List, [], ◌∷◌, Some, None, slice_index, refl, ap, arith, lit<}
 use Rattle.bsc_octets.specs.declared.envelope.Envelope.{Envelope}
 use Rattle.bsc_octets.specs.Envelopes.{HasWholeAddresses, SpellsEnvelope}

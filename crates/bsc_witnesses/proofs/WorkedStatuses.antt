@@ -1,4 +1,5 @@
 -- Runs of a small language, by the end and by the status of each: what they read, and what they wrote. And a line of `check`, with its answer.
+-- No clause needs it: worked examples.
 use Rattle.std.proofs.Common.{◌≡◌, ℕ, inl, inr, List, [], ◌∷◌, ◌++◌, Option, Some, None, false, refl, sym, ap, subst, true, lit≤}
 use Rattle.std.specs.Prelude.{codes}
 use Rattle.std.specs.List.{concat}

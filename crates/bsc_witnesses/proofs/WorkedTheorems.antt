@@ -1,5 +1,6 @@
 -- Words of the theorem file, written out, that no other example has: what a pass has that has all callers, states of a turn,
 -- checks and octets, laws of sessions, and verdicts on journals.
+-- No clause needs it: worked examples.
 use Rattle.std.proofs.Common.{◌≡◌, ℕ, zero, suc, ◌<◌, ⊎_elim, inl, true, false, List, [], ◌∷◌, ◌++◌, length, length-append, slice_index, Option, None, Ok, refl, sym, ap, subst, ◌∙◌, arith, lit<}
 use Rattle.std.specs.Prelude.{⊤}
 use Rattle.std.specs.List.{AllByRecursion}

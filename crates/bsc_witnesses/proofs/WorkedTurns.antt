@@ -1,4 +1,5 @@
 -- A turn of a node, and what there is outside it, written out. The node counts what it is told, and does nothing else.
+-- No clause needs it: worked examples.
 use Rattle.std.proofs.Common.{◌≡◌, ℕ, suc, ◌<◌, ◌≤◌, ⊎_elim, Bool, true, false, List, [], ◌∷◌, Option, Some, None, refl, sym, ap, subst, ◌∙◌, arith, inl, lit<, lit≤}
 use Rattle.std.specs.Prelude.{slice_index, ⊤}
 use Rattle.bsc_connector.specs.declared.side.Side.TheVariants.{Primary, Failover}

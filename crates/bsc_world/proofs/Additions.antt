@@ -1,4 +1,5 @@
 -- A world to which a hub or a node was added stands for a network with one more.
+-- It serves the clauses of `add_hub` and `add_node`.
 use Rattle.std.proofs.Common.{◌≡◌, ◌≤◌, ◌<◌, ◌⊎◌, inl, inr, ℕ, ◌+◌, true, List, [], ◌∷◌, ◌++◌, length, map, slice_get, Some, refl, ap, sym, ◌∙◌, subst, arith, length-append}
 use Rattle.std.proofs.lemmas.List.{length-map, map-append}
 use Rattle.std.specs.Prelude.{Bool}
@@ -39,7 +40,8 @@ nodes_after-hub b k [] a = refl
 nodes_after-hub b k (hub x ∷ added) a = nodes_after-hub (b + 1) k added a
 nodes_after-hub b k (node own direct ∷ added) a = ap (λ xs. record { own = own; limits = settings b k direct } ∷ xs) (nodes_after-hub b (k + 1) added a)
 
-nodes_after-node : (b k : ℕ) (added : List Added) (own : Identity) (direct : Bool) → nodes_after b k (added ++ node own direct ∷ []) ≡ nodes_after b k added ++ record { own = own; limits = settings (b + length (hubs added)) (k + length (nodes_after b k added)) direct } ∷ []
+nodes_after-node : (b k : ℕ) (added : List Added) (own : Identity) (direct : Bool)
+    → nodes_after b k (added ++ node own direct ∷ []) ≡ nodes_after b k added ++ record { own = own; limits = settings (b + length (hubs added)) (k + length (nodes_after b k added)) direct } ∷ []
 nodes_after-node b k [] own direct =
     let P = λ (x y : ℕ). (let m : Made = record { own = own; limits = settings x y direct } in m ∷ []) in
     let first : b + 0 ≡ b = omega arith in
@@ -58,7 +60,8 @@ nodes_after-node b k (node who d ∷ added) own direct =
 pub nodes-hub : (added : List Added) (a : About) → nodes (added ++ hub a ∷ []) ≡ nodes added
 nodes-hub added a = nodes_after-hub 0 0 added a
 
-pub nodes-node : (added : List Added) (own : Identity) (direct : Bool) → nodes (added ++ node own direct ∷ []) ≡ nodes added ++ record { own = own; limits = settings (length (hubs added)) (length (nodes added)) direct } ∷ []
+pub nodes-node : (added : List Added) (own : Identity) (direct : Bool)
+    → nodes (added ++ node own direct ∷ []) ≡ nodes added ++ record { own = own; limits = settings (length (hubs added)) (length (nodes added)) direct } ∷ []
 nodes-node added own direct =
     let first : 0 + length (hubs added) ≡ length (hubs added) = omega arith in
     let second : 0 + length (nodes added) ≡ length (nodes added) = omega arith in
@@ -99,7 +102,8 @@ added_hub t u added who limits kept f made clock hubs_so nodes_so links_so few n
         few_links = s.few_links;
         leads = λ l j link at to. absurd (nothing_there l link at);
         hubs = λ j h at. each j h (got-last_of (new_world added).hubs (new_hub a) j h (ap (λ xs. slice_get xs j) (sym hubs_are) ∙ at));
-        nodes = λ k n at. (let b = s.nodes k n (ap (λ xs. slice_get xs k) (sym nodes_are) ∙ at) in record { kept = b.kept; there = ap (λ xs. slice_get xs k) nodes_so ∙ b.there; node = b.node; calm = b.calm });
+        nodes = λ k n at. (let b = s.nodes k n (ap (λ xs. slice_get xs k) (sym nodes_are) ∙ at) in
+            record { kept = b.kept; there = ap (λ xs. slice_get xs k) nodes_so ∙ b.there; node = b.node; calm = b.calm });
         links = λ l link at. absurd (nothing_there l link at);
         ready = λ l k side other got it. s.ready l k side other (ap (λ xs. slice_get xs l) (sym links_so) ∙ got) it;
       };
@@ -139,11 +143,17 @@ added_node t u added own direct kept f made clock hubs_so nodes_so links_so some
     let hub_count : length t.hubs.items ≡ length (hubs added) = s.hub_count ∙ length-map (hubs added) new_hub in
     let node_count : length t.nodes.items ≡ length (nodes added) = s.node_count ∙ length-map (nodes added) new_node in
     let m : Made = record { own = own; limits = settings (length (hubs added)) (length (nodes added)) direct } in
-    let nodes_are : (new_world (added ++ node own direct ∷ [])).nodes ≡ (new_world added).nodes ++ new_node m ∷ [] = ap (map new_node) (nodes-node added own direct) ∙ map-append new_node (nodes added) (m ∷ []) in
+    let nodes_are : (new_world (added ++ node own direct ∷ [])).nodes ≡ (new_world added).nodes ++ new_node m ∷ [] = ap (map new_node) (nodes-node added own direct)
+    ∙ map-append new_node (nodes added) (m ∷ []) in
     let hubs_are : (new_world (added ++ node own direct ∷ [])).hubs ≡ (new_world added).hubs = ap (map new_hub) (hubs-node added own direct) in
-    let kept_is : IsNodeKept (new_node m) kept = subst (λ n. IsNodeKept (new_node (record { own = own; limits = settings n (length (nodes added)) direct })) kept) hub_count (subst (λ n. IsNodeKept (new_node (record { own = own; limits = settings (length t.hubs.items) n direct })) kept) node_count is) in
+    let kept_is : IsNodeKept (new_node m) kept = subst (λ n. IsNodeKept (new_node (record { own = own; limits = settings n (length (nodes added)) direct })) kept) hub_count
+    (subst (λ n. IsNodeKept (new_node (record { own = own; limits = settings (length t.hubs.items) n direct })) kept) node_count is) in
     record {
-      course = record { added_all = may_add_one added (node own direct) f.course.added_all (record { some_hub = subst (λ n. 1 ≤ n) hub_count some; few = subst (λ n. n < NODES) node_count few; who = node_own }); made_all = tt };
+      course = record {
+        added_all = may_add_one added (node own direct) f.course.added_all
+            (record { some_hub = subst (λ n. 1 ≤ n) hub_count some; few = subst (λ n. n < NODES) node_count few; who = node_own });
+        made_all = tt;
+      };
       newest = refl;
       clock = (let c = f.clock in omega arith);
       kept = record {
@@ -171,7 +181,8 @@ added_node t u added own direct kept f made clock hubs_so nodes_so links_so some
     w : World
     w = new_world (added ++ node own direct ∷ [])
 
-    each : (m : Made) → IsNodeKept (new_node m) kept → (k : ℕ) (n : Node) → (slice_get (new_world added).nodes k ≡ Some n) ⊎ ((k ≡ length (new_world added).nodes) × (n ≡ new_node m)) → IsNodeAt u w k n
+    each : (m : Made) → IsNodeKept (new_node m) kept → (k : ℕ) (n : Node) → (slice_get (new_world added).nodes k ≡ Some n) ⊎ ((k ≡ length (new_world added).nodes) × (n ≡ new_node m))
+        → IsNodeAt u w k n
     each m kept_is k n (inl old) =
         (let b = f.kept.nodes k n old in
         record { kept = b.kept; there = ap (λ xs. slice_get xs k) nodes_so ∙ got-left t.nodes.items (kept ∷ []) k b.kept b.there; node = b.node; calm = b.calm })

@@ -1,4 +1,5 @@
 -- What a step answers as delivered is what its network delivers more, and was sent.
+-- It serves the clauses of `step`.
 use Rattle.std.proofs.Common.{List, [], ◌∷◌, ◌++◌, Ok, Err, ap, sym, ◌∙◌}
 use Rattle.std.specs.Prelude.{Result}
 use Rattle.bsc_network.specs.declared.world_delivery.WorldDelivery.{WorldDelivery}

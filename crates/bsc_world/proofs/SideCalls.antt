@@ -1,4 +1,5 @@
 -- What the sessions at a hub's sides hear and do leaves of a world.
+-- It serves clauses of functions of `laws` and `world`.
 use Rattle.std.proofs.Common.{◌≡◌, ◌≤◌, ◌⊎◌, inl, inr, ℕ, zero, suc, Bool, true, false, cond, List, [], ◌∷◌, ◌++◌, length, set, slice_get, Option, Some, None, true≢false, refl, ap, sym, ◌∙◌, subst}
 use Rattle.std.specs.Option.{option_map}
 use Rattle.bsc_history.specs.declared.ending.End.{End}
@@ -110,7 +111,8 @@ pub past_session : (t : KeptWorld) (l : ℕ) → length t.links.items ≤ l → 
 past_session t l past F b w s j h x p = (let bad : None ≡ Some x = sym (no_link_at t F b w l s past) ∙ p.there in cc)
 
 -- nor where no side of a hub is kept
-pub alone_session : (t : KeptWorld) (l : ℕ) (kept : KeptLink) → slice_get t.links.items l ≡ Some kept → ((j : ℕ) → kept.to ≡ ToHub j → kept.side ≡ None) → (F : List LinkName) (b : Option ℕ) (w : World) → WorldKeptAs t F b w → HasNoSession w l
+pub alone_session : (t : KeptWorld) (l : ℕ) (kept : KeptLink) → slice_get t.links.items l ≡ Some kept → ((j : ℕ) → kept.to ≡ ToHub j → kept.side ≡ None)
+    → (F : List LinkName) (b : Option ℕ) (w : World) → WorldKeptAs t F b w → HasNoSession w l
 alone_session t l kept was none F b w s j h x p =
     let y = link_there t F b w l kept s was in
     let same : y.0 ≡ x = some_same y.0 x (sym y.1 ∙ p.there) in
@@ -119,7 +121,8 @@ alone_session t l kept was none F b w s j h x p =
     let over : x.side.is_over ≡ true = subst (IsSideKeptIf l h a.kept.core x) (none j to) (a.sides l x kept p.there p.to was) in
     true≢false (sym over ∙ p.lasts)
 
-pub kept_session : (t : KeptWorld) (l j : ℕ) (kept : KeptLink) (side : KeptSide) → slice_get t.links.items l ≡ Some kept → kept.to ≡ ToHub j → kept.side ≡ Some side → (F : List LinkName) (b : Option ℕ) (w : World) → WorldKeptAs t F b w → HasSession w l
+pub kept_session : (t : KeptWorld) (l j : ℕ) (kept : KeptLink) (side : KeptSide) → slice_get t.links.items l ≡ Some kept → kept.to ≡ ToHub j → kept.side ≡ Some side
+    → (F : List LinkName) (b : Option ℕ) (w : World) → WorldKeptAs t F b w → HasSession w l
 kept_session t l j kept side was to is F b w s =
     let x = side_at t F b w l j kept s was to in
     let k : IsSideKept l x.hub x.at.kept.core x.link side = subst (IsSideKeptIf l x.hub x.at.kept.core x.link) is x.side in
@@ -133,13 +136,15 @@ put_goes_on t u l f finds p b F w at s = (let x = finds F b w s in became_as t u
 pub put_nothing : (t : KeptWorld) (l : ℕ) (f : Change) → Finds false t l → Keeps (unless_over l f) t t
 put_nothing t l f finds b F w at s = became_as t t F b w w (unless_over l f w) (sym (unless_none w l f (finds F b w s))) (became_same t t F b w refl refl refl refl refl refl s)
 
-then_closes : (t u v : KeptWorld) (l : ℕ) (content : Content) (g : Change) → Keeps (unless_over l (puts_now l Down content)) t u → BecomesBusy (Some l) None (unless_over l g) u v → BecomesBusy (Some l) None (unless_over l (λ w. g (puts_now l Down content w))) t v
+then_closes : (t u v : KeptWorld) (l : ℕ) (content : Content) (g : Change) → Keeps (unless_over l (puts_now l Down content)) t u → BecomesBusy (Some l) None (unless_over l g) u v
+    → BecomesBusy (Some l) None (unless_over l (λ w. g (puts_now l Down content w))) t v
 then_closes t u v l content g p q F w at s =
     became_as t v F None w (unless_over l g (unless_over l (puts_now l Down content) w)) (unless_over l (λ y. g (puts_now l Down content y)) w)
     (unless_then l (puts_now l Down content) g w (λ j h x i. put_session w l j h x w.steps content i))
     (goes_both (Some l) (Some l) None (unless_over l (puts_now l Down content)) (unless_over l g) t u v (p (Some l)) q F w at s)
 
-pub close_goes : (t u v : KeptWorld) (l : ℕ) → Keeps (unless_over l (puts_now l Down Closed)) t u → BecomesBusy (Some l) None (unless_over l (leaves l)) u v → BecomesBusy (Some l) None (unless_over l (closes l)) t v
+pub close_goes : (t u v : KeptWorld) (l : ℕ) → Keeps (unless_over l (puts_now l Down Closed)) t u → BecomesBusy (Some l) None (unless_over l (leaves l)) u v
+    → BecomesBusy (Some l) None (unless_over l (closes l)) t v
 close_goes t u v l p q = then_closes t u v l Closed (leaves l) p q
 
 pub put_close_goes : (t u v : KeptWorld) (l : ℕ) (octets : List ℕ) → Keeps (unless_over l (puts_now l Down (Message octets))) t u → BecomesBusy (Some l) None (unless_over l (closes l)) u v
@@ -180,7 +185,8 @@ conn_told l h core s events (Some c) k = record {
   places = k.places;
 }
 
-side_told : (l : ℕ) (h : Hub) (core : HubCore) (link : Link) (e : Event) (old new : KeptLink) (p : PortGoes old new) (i : Start) → AcceptingStands p.was.machine i link.side.events → AcceptingStands p.machine i (link.side.events ++ e ∷ [])
+side_told : (l : ℕ) (h : Hub) (core : HubCore) (link : Link) (e : Event) (old new : KeptLink) (p : PortGoes old new) (i : Start) → AcceptingStands p.was.machine i link.side.events
+    → AcceptingStands p.machine i (link.side.events ++ e ∷ [])
     → IsSideKeptIf l h core link old.side → IsSideKeptIf l h core (hears e link) new.side
 side_told l h core link e old new p i before after k =
     let was : IsSideKept l h core link p.was = subst (IsSideKeptIf l h core link) p.there k in
@@ -215,8 +221,10 @@ pub record IsTold (t u : KeptWorld) (F : List LinkName) (w : World) (l j : ℕ) 
   pub machine : AcceptingStands m (start h link) link.side.events
   pub became : Became t u F (Some l) w (told l (e (start h link) link.side.events) w)
 
-pub is_told : (t u : KeptWorld) (F : List LinkName) (w : World) (l : ℕ) (kept after : KeptLink) (p : PortGoes kept after) (e : Start → List Event → Event) → slice_get t.links.items l ≡ Some kept → OnLink t u l after → u.hubs.items ≡ t.hubs.items
-    → ((h : Hub) (link : Link) → hub_at w p.hub ≡ Some h → AcceptingStands p.was.machine (start h link) link.side.events → AcceptingStands p.machine (start h link) (link.side.events ++ e (start h link) link.side.events ∷ []))
+pub is_told : (t u : KeptWorld) (F : List LinkName) (w : World) (l : ℕ) (kept after : KeptLink) (p : PortGoes kept after) (e : Start → List Event → Event)
+    → slice_get t.links.items l ≡ Some kept → OnLink t u l after → u.hubs.items ≡ t.hubs.items
+    → ((h : Hub) (link : Link) → hub_at w p.hub ≡ Some h → AcceptingStands p.was.machine (start h link) link.side.events
+    → AcceptingStands p.machine (start h link) (link.side.events ++ e (start h link) link.side.events ∷ []))
     → WorldKeptAs t F (Some l) w → IsTold t u F w l p.hub e p.was.machine
 is_told t u F w l kept after p e was o hubs goes st =
     let x = side_at t F (Some l) w l p.hub kept st was p.to in
@@ -273,7 +281,8 @@ handled_so : (w : World) (kept after : KeptLink) (p : PortGoes kept after) (o : 
     → AcceptingStands p.was.machine (start h link) link.side.events → AcceptingStands p.machine (start h link) (link.side.events ++ machine_event e ∷ [])
 handled_so w kept after p o e does h link at st = (does (start h link) link.side.events st).1
 
-pub told_stands : (t u : KeptWorld) (l : ℕ) (kept after : KeptLink) (p : PortGoes kept after) (o : Output) (e : PortEvent) → slice_get t.links.items l ≡ Some kept → OnLink t u l after → u.hubs.items ≡ t.hubs.items → Handles p.was.machine p.machine e o → Stands (Some l) t → Stands (Some l) u
+pub told_stands : (t u : KeptWorld) (l : ℕ) (kept after : KeptLink) (p : PortGoes kept after) (o : Output) (e : PortEvent) → slice_get t.links.items l ≡ Some kept → OnLink t u l after
+    → u.hubs.items ≡ t.hubs.items → Handles p.was.machine p.machine e o → Stands (Some l) t → Stands (Some l) u
 told_stands t u l kept after p o e was on hubs does (F, w, at, st) =
     let i = is_told t u F w l kept after p (λ s E. machine_event e) was on hubs (handled_so w kept after p o e does) st in
     let v = told l (machine_event e) w in
@@ -289,7 +298,8 @@ out_is l (Close c) = refl
 out_is l Nothing = refl
 
 -- What the port does is carried out.
-pub tells_goes : (t u v : KeptWorld) (l : ℕ) (kept after : KeptLink) (p : PortGoes kept after) (o : Output) (e : PortEvent) → slice_get t.links.items l ≡ Some kept → OnLink t u l after → u.hubs.items ≡ t.hubs.items → Handles p.was.machine p.machine e o
+pub tells_goes : (t u v : KeptWorld) (l : ℕ) (kept after : KeptLink) (p : PortGoes kept after) (o : Output) (e : PortEvent) → slice_get t.links.items l ≡ Some kept → OnLink t u l after
+    → u.hubs.items ≡ t.hubs.items → Handles p.was.machine p.machine e o
     → BecomesBusy (Some l) None (unless_over l (puts_out l o)) u v → BecomesBusy (Some l) None (unless_over l (tells l (machine_event e))) t v
 tells_goes t u v l kept after p o e was on hubs does q F w at st =
     let it = machine_event e in
@@ -311,19 +321,23 @@ set-same [] i x h = cc
 set-same (y ∷ xs) zero x h = ap (λ z. z ∷ xs) (sym (some_same y x h))
 set-same (y ∷ xs) (suc i) x h = ap (λ ys. y ∷ ys) (set-same xs i x h)
 
-pub same_after : (t u : KeptWorld) (l : ℕ) (kept after : KeptLink) → slice_get t.links.items l ≡ Some kept → OnLink t u l after → u.hubs.items ≡ t.hubs.items → after ≡ kept → (F : List LinkName) (b : Option ℕ) (w : World) → WorldKeptAs t F b w → Became t u F b w w
+pub same_after : (t u : KeptWorld) (l : ℕ) (kept after : KeptLink) → slice_get t.links.items l ≡ Some kept → OnLink t u l after → u.hubs.items ≡ t.hubs.items → after ≡ kept
+    → (F : List LinkName) (b : Option ℕ) (w : World) → WorldKeptAs t F b w → Became t u F b w w
 same_after t u l kept after was o hubs same F b w s = became_same t u F b w o.clock o.spent o.made hubs o.nodes (o.links ∙ ap (set t.links.items l) same ∙ set-same t.links.items l kept was) s
 
-pub same_stands : (t u : KeptWorld) (l : ℕ) (kept after : KeptLink) → slice_get t.links.items l ≡ Some kept → OnLink t u l after → u.hubs.items ≡ t.hubs.items → after ≡ kept → (b : Option ℕ) → Stands b t → Stands b u
+pub same_stands : (t u : KeptWorld) (l : ℕ) (kept after : KeptLink) → slice_get t.links.items l ≡ Some kept → OnLink t u l after → u.hubs.items ≡ t.hubs.items → after ≡ kept → (b : Option ℕ)
+    → Stands b t → Stands b u
 same_stands t u l kept after was o hubs same b (F, w, at, s) = (let p = same_after t u l kept after was o hubs same F b w s in (F, w, at ∙ sym o.clock, p.stands))
 
 -- the session isn't there, and is let go
-pub left_goes : (t u : KeptWorld) (l : ℕ) (change : Change) → ((F : List LinkName) (b : Option ℕ) (w : World) → WorldKeptAs t F b w → HasNoSession w l) → BecomesBusy (Some l) None (unless_over l (leaves l)) t u → BecomesBusy (Some l) None (unless_over l change) t u
+pub left_goes : (t u : KeptWorld) (l : ℕ) (change : Change) → ((F : List LinkName) (b : Option ℕ) (w : World) → WorldKeptAs t F b w → HasNoSession w l)
+    → BecomesBusy (Some l) None (unless_over l (leaves l)) t u → BecomesBusy (Some l) None (unless_over l change) t u
 left_goes t u l change none p F w at s =
     let n = none F (Some l) w s in
     became_as t u F None w (unless_over l (leaves l) w) (unless_over l change w) (unless_none w l (leaves l) n ∙ sym (unless_none w l change n)) (p F w at s)
 
-pub same_left_goes : (t u v : KeptWorld) (l : ℕ) (change : Change) (kept after : KeptLink) → slice_get t.links.items l ≡ Some kept → OnLink t u l after → u.hubs.items ≡ t.hubs.items → after ≡ kept → ((j : ℕ) → kept.to ≡ ToHub j → kept.side ≡ None)
+pub same_left_goes : (t u v : KeptWorld) (l : ℕ) (change : Change) (kept after : KeptLink) → slice_get t.links.items l ≡ Some kept → OnLink t u l after → u.hubs.items ≡ t.hubs.items
+    → after ≡ kept → ((j : ℕ) → kept.to ≡ ToHub j → kept.side ≡ None)
     → BecomesBusy (Some l) None (unless_over l (leaves l)) u v → BecomesBusy (Some l) None (unless_over l change) t v
 same_left_goes t u v l change kept after was o hubs same none p F w at s =
     let n = alone_session t l kept was none F (Some l) w s in
@@ -336,5 +350,6 @@ same_left_goes t u v l change kept after was o hubs same none p F w at s =
 pub busy_stands : (t : KeptWorld) (l : ℕ) → Stands None t → Stands (Some l) t
 busy_stands t l (F, w, at, s) = (F, w, at, busy_more t F l w s)
 
-pub ended_goes : (t v : KeptWorld) (l : ℕ) (ending : End) → BecomesBusy (Some l) None (unless_over l (tells l (Ended t.clock ending))) t v → (F : List LinkName) (w : World) → w.now ≡ t.clock → WorldKeptAs t F None w → Became t v F None w (unless_over l (tells l (Ended w.now ending)) w)
+pub ended_goes : (t v : KeptWorld) (l : ℕ) (ending : End) → BecomesBusy (Some l) None (unless_over l (tells l (Ended t.clock ending))) t v → (F : List LinkName) (w : World) → w.now ≡ t.clock
+    → WorldKeptAs t F None w → Became t v F None w (unless_over l (tells l (Ended w.now ending)) w)
 ended_goes t v l ending p F w at s = subst (λ (n : ℕ). Became t v F None w (unless_over l (tells l (Ended n ending)) w)) (sym at) (p F w at (busy_more t F l w s))

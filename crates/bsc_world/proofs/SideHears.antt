@@ -1,4 +1,5 @@
 -- What a message that comes to a hub's side leaves of a world.
+-- It serves clauses of functions of `laws` and `world`.
 use Rattle.std.proofs.Common.{◌≡◌, ℕ, List, [], ◌∷◌, ◌++◌, set, slice_get, Option, Some, None, IfSome, refl, ap, sym, ◌∙◌, subst}
 use Rattle.bsc_history.specs.declared.limits.About.{About}
 use Rattle.bsc_checks.specs.declared.verdict.Verdict.{Verdict}
@@ -37,7 +38,8 @@ Listens t u l m o = (F : List LinkName) (w : World) → w.now ≡ t.clock → Wo
 -- ---- where it is judged
 
 -- What a hub takes at most is what its definition says.
-most_at : (t : KeptWorld) (F : List LinkName) (w : World) (j : ℕ) (hub : KeptHub) → slice_get t.hubs.items j ≡ Some hub → WorldKeptAs t F None w → (h : Hub) → hub_at w j ≡ Some h → hub.about.hub.max_bvlc ≡ h.about.hub.max_bvlc
+most_at : (t : KeptWorld) (F : List LinkName) (w : World) (j : ℕ) (hub : KeptHub) → slice_get t.hubs.items j ≡ Some hub → WorldKeptAs t F None w → (h : Hub) → hub_at w j ≡ Some h
+    → hub.about.hub.max_bvlc ≡ h.about.hub.max_bvlc
 most_at t F w j hub there s h at =
     let a = s.hubs j h at in
     let same : hub ≡ a.kept = some_same hub a.kept (sym there ∙ a.there) in
@@ -48,8 +50,10 @@ most_at t F w j hub there s h at =
 hub_same : (a b : ℕ) → ToHub a ≡ ToHub b → a ≡ b
 hub_same a b e = cc
 
-heard_some : (t u : KeptWorld) (F : List LinkName) (w : World) (l : ℕ) (kept after : KeptLink) (p : PortGoes kept after) (a : PortAction) (m : List ℕ) (max : ℕ) → slice_get t.links.items l ≡ Some kept → OnLink t u l after → u.hubs.items ≡ t.hubs.items
-    → Hears p.was.machine p.machine None None t.clock max m a → w.now ≡ t.clock → WorldKeptAs t F None w → ((h : Hub) → hub_at w p.hub ≡ Some h → max ≡ h.about.hub.max_bvlc) → Heard (Some a) l m t u F w
+heard_some : (t u : KeptWorld) (F : List LinkName) (w : World) (l : ℕ) (kept after : KeptLink) (p : PortGoes kept after) (a : PortAction) (m : List ℕ) (max : ℕ)
+    → slice_get t.links.items l ≡ Some kept → OnLink t u l after → u.hubs.items ≡ t.hubs.items
+    → Hears p.was.machine p.machine None None t.clock max m a → w.now ≡ t.clock → WorldKeptAs t F None w → ((h : Hub) → hub_at w p.hub ≡ Some h → max ≡ h.about.hub.max_bvlc)
+    → Heard (Some a) l m t u F w
 heard_some t u F w l kept after p a m max was o hubs hears at st most =
     let i = is_told t u F w l kept after p (λ s E. heard s E t.clock m) was o hubs (λ h link there stands. (hears (start h link) link.side.events stands (most h there)).1) (busy_more t F l w st) in
     let does = hears (start i.h i.link) i.link.side.events i.machine (most i.h i.side.hub) in (
@@ -61,7 +65,8 @@ heard_some t u F w l kept after p a m max was o hubs hears at st most =
       subst (λ n. Became t u F (Some l) w (told l (heard (start i.h i.link) i.link.side.events n m) w)) (sym at) i.became,
     )
 
-pub listened : (t u : KeptWorld) (l j : ℕ) (kept after : KeptLink) (hub : KeptHub) (o : Option PortAction) (m : List ℕ) → slice_get t.links.items l ≡ Some kept → kept.to ≡ ToHub j → slice_get t.hubs.items j ≡ Some hub → OnLink t u l after → u.hubs.items ≡ t.hubs.items
+pub listened : (t u : KeptWorld) (l j : ℕ) (kept after : KeptLink) (hub : KeptHub) (o : Option PortAction) (m : List ℕ) → slice_get t.links.items l ≡ Some kept → kept.to ≡ ToHub j
+    → slice_get t.hubs.items j ≡ Some hub → OnLink t u l after → u.hubs.items ≡ t.hubs.items
     → PortHears o t.clock hub.about.hub.max_bvlc m kept after → Listens t u l m o
 listened t u l j kept after hub None m was to there on hubs y F w at st = (alone_session t l kept was y.0 F None w st, same_after t u l kept after was on hubs y.1 F None w st)
 listened t u l j kept after hub (Some a) m was to there on hubs y F w at st =
@@ -107,7 +112,8 @@ heard_stands t u l m a hears (F, w, at, st) =
     let v = told l (heard (start x.1 x.2) x.2.side.events w.now m) w in
     (F, v, at_clock t u F (Some l) w v at x.5, x.5.stands)
 
-pub receives_goes : (t u v : KeptWorld) (l place : ℕ) (m : List ℕ) (a : PortAction) → Listens t u l m (Some a) → BecomesBusy (Some l) None (unless_over l (acts l place m a)) u v → Becomes (unless_over l (receives l place m)) t v
+pub receives_goes : (t u v : KeptWorld) (l place : ℕ) (m : List ℕ) (a : PortAction) → Listens t u l m (Some a) → BecomesBusy (Some l) None (unless_over l (acts l place m a)) u v
+    → Becomes (unless_over l (receives l place m)) t v
 receives_goes t u v l place m a hears q F w at st =
     let x = hears F w at st in
     let e = Came w.now (verdict_on x.1 x.2 m) in

@@ -1,8 +1,7 @@
 //! What is kept of a long input, and what is said of a line in it.
 use bsc_octets::NoMemory;
 use bsc_outside::Source;
-use bsc_recorders::KeptSource;
-use bsc_why::{Format, Seen, why_line};
+use bsc_why::{Format, KeptSource, Seen, why_line};
 use std::process::Abort;
 use std::test::*;
 

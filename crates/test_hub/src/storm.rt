@@ -3,8 +3,7 @@ ghost use Rattle.std.specs.Prelude.{◌≤◌};
 
 use crate::hub::{new_hub, stop_if};
 use bsc_history::{MOST_CALLERS, MOST_CALLS};
-use bsc_load::LoadStop;
-use bsc_storm::{StormEnd, storm_on};
+use bsc_load::{LoadStop, StormEnd, storm_on};
 use std::alloc::Global;
 use std::sync::Wait;
 use std::test::Fail;

@@ -12,7 +12,8 @@ use Rattle.bsc_initiate.specs.declared.stage.Stage.{Stage as InitStage}
 use Rattle.bsc_initiate.specs.declared.stage.Stage.TheVariants.{AwaitingWebsocket, AwaitingAccept, Connected as InitConnected, Disconnecting as InitDisconnecting, Idle as InitIdle}
 use Rattle.bsc_initiate.specs.declared.initiating.Initiating.{Initiating}
 use Rattle.bsc_initiate.specs.declared.step.InitStep.{InitStep}
-use Rattle.bsc_initiate.specs.declared.step.InitStep.TheVariants.{Put as InitPut, PutClose as InitPutClose, Connected as NowConnected, Refused, Up as InitUp, Close as InitClose, Nothing as InitNothing}
+use Rattle.bsc_initiate.specs.declared.step.InitStep.TheVariants.{Put as InitPut, PutClose as InitPutClose, Connected as NowConnected, Refused, Up as InitUp, Close as InitClose}
+use Rattle.bsc_initiate.specs.declared.step.InitStep.TheVariants.{Nothing as InitNothing}
 use Rattle.bsc_initiate.specs.Standing.{AwaitsWebsocket, LeavesInitiating, is_open as is_open_initiating, phase_at}
 use Rattle.test_machines.specs.Waiting.{is_asked, is_unopened, asks, goes_on, init_goes_on}
 

@@ -7,9 +7,9 @@
 #![tactic(auto)]
 
 #[cfg(test)]
-mod log;
-#[cfg(test)]
 mod outside;
+#[cfg(test)]
+mod play_log;
 #[cfg(test)]
 mod playing;
 #[cfg(test)]

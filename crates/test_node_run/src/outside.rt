@@ -1,5 +1,5 @@
 //! What a run has outside, in memory.
-use crate::log::Log;
+use crate::play_log::PlayLog;
 use crate::row::{Gives, Peer, Row};
 use crate::watched::Watched;
 use bsc_edge::{Incoming, MemAcceptor, MemClock, MemDialer, MemFile, MemFiles, MemLink, MemWaiter};
@@ -30,7 +30,7 @@ pub struct Outside {
 /// The links to these peers. A message without digits is left out.
 fn links(
     alloc: Global,
-    log: &Rc<Log>,
+    log: &Rc<PlayLog>,
     peers: &'static [Peer],
 ) -> Result<Vec<WatchedLink>, NoMemory> {
     let mut links = Vec::new(alloc);
@@ -59,7 +59,7 @@ fn links(
 impl Outside {
     /// The outside of a run.
     pub fn of(alloc: Global, row: &Row) -> Result<Outside, NoMemory> {
-        let log = Log {
+        let log = PlayLog {
             now: Cell::new(0),
             text: Cell::new(Some(String::new(alloc))),
         };

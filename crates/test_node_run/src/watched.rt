@@ -1,7 +1,7 @@
 //! An outside of which is noted what is done.
 ghost use Rattle.std.proofs.Common.{refl};
 
-use crate::log::{Deed, Log};
+use crate::play_log::{Deed, PlayLog};
 use bsc_edge::{Clock, Dialer, Incoming, Kind, Link, LinkFault};
 use bsc_octets::NoMemory;
 use std::alloc::Global;
@@ -12,7 +12,7 @@ use std::rc::Rc;
 pub struct Watched<T> {
     pub name: &'static str,
     pub inner: T,
-    pub log: Rc<Log>,
+    pub log: Rc<PlayLog>,
 }
 
 impl<C: Clock> Clock for Watched<C> {
@@ -60,8 +60,8 @@ impl<L: Link> Link for Watched<L> {
         self.inner.close(alloc, code, reason)
     }
 
-    fn known_as(&mut self, conn: u64) {
-        self.inner.known_as(conn);
+    fn set_connection(&mut self, conn: u64) {
+        self.inner.set_connection(conn);
     }
 
     fn wake(&mut self, conn: u64) {

@@ -1,7 +1,7 @@
 //! A journal of every kind of call and of reply, as `examples/everycall.journal` has it: its lines are read and written again,
 //! and its octets come in pieces.
 use bsc_audit::{AuditEnd, audit};
-use bsc_journal::{Said, entry_line, read_said};
+use bsc_journal::{JournalRecord, entry_line, read_said};
 use bsc_octets::NoMemory;
 use bsc_outside::MemSource;
 use std::test::*;
@@ -45,9 +45,9 @@ fn lines_are_read_back(rt: HostRuntime) -> Result<(), NoMemory> {
     for line in EVERY_CALL.lines() {
         let octets = line.as_bytes();
         match read_said(rt.alloc(), octets)? {
-            Some(Said::Hub(_)) => assert!(rt; line.starts_with("hub")),
-            Some(Said::Denial) => assert!(rt; line.starts_with("deny")),
-            Some(Said::Entry { place, entry }) => {
+            Some(JournalRecord::Hub(_)) => assert!(rt; line.starts_with("hub")),
+            Some(JournalRecord::Denial) => assert!(rt; line.starts_with("deny")),
+            Some(JournalRecord::Entry { place, entry }) => {
                 let written = entry_line(rt.alloc(), place, &entry)?;
                 assert!(rt; written.as_slice() == octets, "{line}");
             }

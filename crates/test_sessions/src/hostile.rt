@@ -7,7 +7,7 @@ use bsc_history::{Counts, End, Refusal};
 use bsc_hub::{Hub, Pass};
 use bsc_octets::{NoMemory, Octets, read_identity};
 use bsc_ring::Take;
-use bsc_session::{Ended, HubSide, Why, serve_connection};
+use bsc_session::{Ended, SessionSetup, Why, serve_connection};
 use std::alloc::Global;
 use std::sync::Wait;
 use std::test::*;
@@ -207,7 +207,7 @@ fn ends_so<R: Wait>(
     }
     let mut link = MemLink::new(alloc, gives, row.failing);
     let mut clock = MemClock::new(alloc, row.readings);
-    let side = HubSide {
+    let side = SessionSetup {
         rt,
         alloc,
         hub,

@@ -136,7 +136,7 @@ impl Link for CuedLink {
         Ok(())
     }
 
-    fn known_as(&mut self, _conn: u64) {}
+    fn set_connection(&mut self, _conn: u64) {}
 
     fn wake(&mut self, _conn: u64) {}
 }

@@ -13,7 +13,7 @@ use bsc_history::Counts;
 use bsc_hub::{Hub, Pass};
 use bsc_octets::{NoMemory, read_identity};
 use bsc_policy::{Policy, PolicyFault};
-use bsc_serve::{ServeEnd, ServeTerms, ServedHub, ServingParts, serve_on};
+use bsc_serve::{MemAsker, ServeEnd, ServeTerms, ServedHub, ServingParts, serve_on};
 use bsc_session::{SessionEnd, SessionJob};
 use std::alloc::Global;
 use std::process::Abort;
@@ -37,8 +37,8 @@ const STOP_LINE: &str =
     "0 0 stop counts joined=0 replaced=0 refused=0 unicasts=0 broadcasts=0 appended=0 dropped=0 full=0 missed=0\n";
 
 /// What a hub is served with: for how many sessions it has numbers; the links that arrive; which calls of the acceptor and of
-/// the spawner fail, and which beginning of a journal; whether the own journal takes nothing, whether sessions have journals, and
-/// whether there is a policy, which admits A alone.
+/// the spawner fail, and which beginning of a journal; at which look the stop is asked for; whether the own journal takes nothing,
+/// whether sessions have journals, and whether there is a policy, which admits A alone.
 #[derive(Drop)]
 struct Served {
     numbers: u8,
@@ -46,6 +46,7 @@ struct Served {
     accepts: &'static [u64],
     starts: &'static [u64],
     begins: u64,
+    asks: u64,
     is_full: bool,
     is_recorded: bool,
     is_guarded: bool,
@@ -58,6 +59,7 @@ const TWO: Served = Served {
     accepts: &[],
     starts: &[],
     begins: 0,
+    asks: u64::MAX,
     is_full: false,
     is_recorded: false,
     is_guarded: false,
@@ -125,6 +127,7 @@ fn serve_links<'a, R: Wait, P: Spawner<Session>>(
         pass,
         own,
         parts,
+        &mut MemAsker::at_look(asked.asks),
     )
 }
 
@@ -245,7 +248,7 @@ struct Row {
     own: &'static str,
 }
 
-const ROWS: [Row; 9] = [
+const ROWS: [Row; 12] = [
     // Each session has joined and left before the hub is stopped: its counts have both.
     Row {
         asked: Served {
@@ -332,6 +335,43 @@ const ROWS: [Row; 9] = [
         closed: 1,
         jobs: 1,
         own: STOP_LINE,
+    },
+    // The stop is asked for before the second link: it isn't taken, the hub is stopped, and then the session that has begun is
+    // awaited. Asked for at the first look no link is taken.
+    Row {
+        asked: Served { asks: 2, ..TWO },
+        end: ServeEnd::Requested {
+            counts: Some(NONE),
+            unstarted: 0,
+        },
+        away: 0,
+        closed: 1,
+        jobs: 1,
+        own: STOP_LINE,
+    },
+    Row {
+        asked: Served { asks: 1, ..TWO },
+        end: ServeEnd::Requested {
+            counts: Some(NONE),
+            unstarted: 0,
+        },
+        away: 0,
+        closed: 0,
+        jobs: 0,
+        own: STOP_LINE,
+    },
+    // The own journal takes no line, and the stop was asked for.
+    Row {
+        asked: Served {
+            asks: 2,
+            is_full: true,
+            ..TWO
+        },
+        end: ServeEnd::JournalFault,
+        away: 0,
+        closed: 1,
+        jobs: 1,
+        own: "",
     },
     // A journal can't be begun, for the second of two links.
     Row {

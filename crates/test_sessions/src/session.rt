@@ -3,7 +3,7 @@ use crate::peers::{CONNECT_A, LIMITS, new_hub};
 use bsc_edge::{Incoming, MemClock, MemLink, Said};
 use bsc_octets::Octets;
 use bsc_outside::MemSink;
-use bsc_session::{Ended, HubSide, Why, serve_recorded};
+use bsc_session::{Ended, SessionSetup, Why, serve_recorded};
 use std::process::Abort;
 use std::test::*;
 
@@ -190,7 +190,7 @@ fn each_call_and_each_line_fails(rt: HostRuntime) -> Result<(), Fail> {
         let mut link = MemLink::new(alloc, gives, row.failing);
         let mut clock = MemClock::new(alloc, &[]);
         let mut journal = MemSink::make(alloc, 1000, row.unwritten)?;
-        let side = HubSide {
+        let side = SessionSetup {
             rt: &rt,
             alloc,
             hub: &hub,

@@ -35,6 +35,8 @@ returns-clause-told g c =
     let v = c.audit_explained-end.result in
     of_reads_so (g.S.Source.reads c.args.source.now) (g.S.Source.reads c.audit_explained-end.new.source)
     (λ (o rest : List ℕ). IfSome v.why (λ why. Explains o v.end why))
-    (λ (o rest : List ℕ). IfSome v.why (λ text. (end : AuditEnd) × SaysAudit end c.tell.result (g.K.Sink.held c.args.sink.now) (g.K.Sink.held c.tell.new.sink) × Explains o end text)) c.audit_explained-end.ensures.explains
-    (λ o rest so. if_some (λ (why : List ℕ). Explains o v.end why) (λ (text : List ℕ). (end : AuditEnd) × SaysAudit end c.tell.result (g.K.Sink.held c.args.sink.now) (g.K.Sink.held c.tell.new.sink) × Explains o end text) v.why
+    (λ (o rest : List ℕ). IfSome v.why (λ text. (end : AuditEnd) × SaysAudit end c.tell.result (g.K.Sink.held c.args.sink.now) (g.K.Sink.held c.tell.new.sink)
+    × Explains o end text)) c.audit_explained-end.ensures.explains
+    (λ o rest so. if_some (λ (why : List ℕ). Explains o v.end why) (λ (text : List ℕ). (end : AuditEnd)
+    × SaysAudit end c.tell.result (g.K.Sink.held c.args.sink.now) (g.K.Sink.held c.tell.new.sink) × Explains o end text) v.why
     (λ why explains. (v.end, c.tell.ensures.says, explains)) so)

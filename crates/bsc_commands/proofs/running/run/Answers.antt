@@ -1,14 +1,14 @@
-use Rattle.std.proofs.Common.{◌≡◌, [], ◌∷◌, Some, Result, Err, Ok, IfOk, Option, ap, map, subst, sym, ◌∙◌, arith}
+use Rattle.std.proofs.Common.{◌≡◌, [], ◌∷◌, Some, Result, Err, Ok, IfOk, Option, inl, inr, ap, map, refl, subst, sym, ◌∙◌, arith}
 use Rattle.std.specs.Prelude.{string_bytes}
 use Rattle.bsc_edge.proofs.Reading.{reads_none}
 use Rattle.bsc_script.specs.Scripts.{replay_of}
 use Rattle.bsc_replay.specs.Checks.{check_of}
 use Rattle.bsc_network_script.specs.Scripts.{simulate_of}
-use Rattle.bsc_words.specs.declared.asked.Asked.{Asked}
-use Rattle.bsc_words.specs.declared.fault.WordsFault.{WordsFault}
-use Rattle.bsc_words.specs.declared.fault.WordsFault.TheVariants.{Refused}
-use Rattle.bsc_words.specs.Read.{asked_in}
-use Rattle.bsc_words.specs.Words.{AskedOf, audit, check, hub, node, replay, seen, simulate}
+use Rattle.bsc_cli.specs.declared.asked.Asked.{Asked}
+use Rattle.bsc_cli.specs.declared.fault.WordsFault.{WordsFault}
+use Rattle.bsc_cli.specs.declared.fault.WordsFault.TheVariants.{Refused}
+use Rattle.bsc_cli.specs.Read.{asked_in}
+use Rattle.bsc_cli.specs.Words.{AskedOf, audit, check, hub, load, node, replay, seen, simulate, test_hub, test_node}
 use Rattle.bsc_commands.proofs.Reading.{ran_out, unaudited, unaudited_of_reads, unread, unread_of_reads, workers_fit}
 use Rattle.bsc_commands.proofs.Sending.{reads_write_what_was_sent, writes_what_was_sent}
 use Rattle.bsc_commands.proofs.running.run.Goals as goal
@@ -26,16 +26,16 @@ run_asked-requires-clause-workers g c κs within n named =
     workers_fit (map string_bytes read.words.now) (seen c.in-Ok.asked) n (said (asked_in read) read.asked c.in-Ok.asked c.in-Ok.is read.ok) named
 
 pub returns-in-Ok-clause-hub : goal.returns-in-Ok-clause-hub
-returns-in-Ok-clause-hub g c path sessions journal made named kept =
+returns-in-Ok-clause-hub g c path sessions journal stop_file made named kept =
     let read = c.args.read.now in
     let asked = said (asked_in read) read.asked c.in-Ok.asked c.in-Ok.is read.ok in
-    c.run_asked.ensures.hub path sessions journal made (asks_same (asked_in read) (seen c.in-Ok.asked) (hub path sessions journal) asked named) kept
+    c.run_asked.ensures.hub path sessions journal stop_file made (asks_same (asked_in read) (seen c.in-Ok.asked) (hub path sessions journal stop_file) asked named) kept
 
 pub returns-in-Ok-clause-no_hub : goal.returns-in-Ok-clause-no_hub
-returns-in-Ok-clause-no_hub g c path sessions journal named kept =
+returns-in-Ok-clause-no_hub g c path sessions journal stop_file named kept =
     let read = c.args.read.now in
     let asked = said (asked_in read) read.asked c.in-Ok.asked c.in-Ok.is read.ok in
-    c.run_asked.ensures.no_hub path sessions journal (asks_same (asked_in read) (seen c.in-Ok.asked) (hub path sessions journal) asked named) kept
+    c.run_asked.ensures.no_hub path sessions journal stop_file (asks_same (asked_in read) (seen c.in-Ok.asked) (hub path sessions journal stop_file) asked named) kept
 
 pub returns-in-Ok-clause-node : goal.returns-in-Ok-clause-node
 returns-in-Ok-clause-node g c path script named =
@@ -151,10 +151,10 @@ returns-in-Err-clause-audited_reads g c named =
 -- ---- which files were read
 
 pub returns-in-Ok-clause-hub_read : goal.returns-in-Ok-clause-hub_read
-returns-in-Ok-clause-hub_read g c path sessions journal named =
+returns-in-Ok-clause-hub_read g c path sessions journal stop_file named =
     let read = c.args.read.now in
     let asked = said (asked_in read) read.asked c.in-Ok.asked c.in-Ok.is read.ok in
-    c.run_asked.ensures.hub_read path sessions journal (asks_same (asked_in read) (seen c.in-Ok.asked) (hub path sessions journal) asked named)
+    c.run_asked.ensures.hub_read path sessions journal stop_file (asks_same (asked_in read) (seen c.in-Ok.asked) (hub path sessions journal stop_file) asked named)
 
 pub returns-in-Ok-clause-node_read : goal.returns-in-Ok-clause-node_read
 returns-in-Ok-clause-node_read g c path script named =
@@ -163,7 +163,72 @@ returns-in-Ok-clause-node_read g c path script named =
     c.run_asked.ensures.node_read path script (asks_same (asked_in read) (seen c.in-Ok.asked) (node path script) asked named)
 
 pub returns-in-Err-clause-hub_read : goal.returns-in-Err-clause-hub_read
-returns-in-Err-clause-hub_read g c path sessions journal named = reads_none (g.F.Files.loads c.args.outside.now.files) (path ∷ [])
+returns-in-Err-clause-hub_read g c path sessions journal stop_file named = reads_none (g.F.Files.loads c.args.outside.now.files) (path ∷ [])
 
 pub returns-in-Err-clause-node_read : goal.returns-in-Err-clause-node_read
 returns-in-Err-clause-node_read g c path script named = reads_none (g.F.Files.loads c.args.outside.now.files) (path ∷ script ∷ [])
+
+-- ---- settings that are tried
+
+pub returns-in-Ok-clause-hub_tested : goal.returns-in-Ok-clause-hub_tested
+returns-in-Ok-clause-hub_tested g c path named =
+    let read = c.args.read.now in
+    let asked = said (asked_in read) read.asked c.in-Ok.asked c.in-Ok.is read.ok in
+    c.run_asked.ensures.hub_tested path (asks_same (asked_in read) (seen c.in-Ok.asked) (test_hub path) asked named)
+
+pub returns-in-Ok-clause-node_tested : goal.returns-in-Ok-clause-node_tested
+returns-in-Ok-clause-node_tested g c path script named =
+    let read = c.args.read.now in
+    let asked = said (asked_in read) read.asked c.in-Ok.asked c.in-Ok.is read.ok in
+    c.run_asked.ensures.node_tested path script (asks_same (asked_in read) (seen c.in-Ok.asked) (test_node path script) asked named)
+
+pub returns-in-Ok-clause-hub_test_read : goal.returns-in-Ok-clause-hub_test_read
+returns-in-Ok-clause-hub_test_read g c path named =
+    let read = c.args.read.now in
+    let asked = said (asked_in read) read.asked c.in-Ok.asked c.in-Ok.is read.ok in
+    c.run_asked.ensures.hub_test_read path (asks_same (asked_in read) (seen c.in-Ok.asked) (test_hub path) asked named)
+
+pub returns-in-Ok-clause-node_test_read : goal.returns-in-Ok-clause-node_test_read
+returns-in-Ok-clause-node_test_read g c path script named =
+    let read = c.args.read.now in
+    let asked = said (asked_in read) read.asked c.in-Ok.asked c.in-Ok.is read.ok in
+    c.run_asked.ensures.node_test_read path script (asks_same (asked_in read) (seen c.in-Ok.asked) (test_node path script) asked named)
+
+pub returns-in-Err-clause-hub_tested : goal.returns-in-Err-clause-hub_tested
+returns-in-Err-clause-hub_tested g c path named =
+    let none = λ (e : c.in-Err.fault ≡ Refused). c.args.read.now.refused (c.in-Err.is ∙ ap Err e) in
+    inl (inr (inr (ran_out c.in-Err.fault (asked_in c.args.read.now) (test_hub path) c.end_unasked.result
+    (g.K.Sink.held c.args.outside.now.sink) (g.K.Sink.held c.end_unasked.new.sink) none c.end_unasked.ensures.ran_out named)))
+
+pub returns-in-Err-clause-node_tested : goal.returns-in-Err-clause-node_tested
+returns-in-Err-clause-node_tested g c path script named =
+    let none = λ (e : c.in-Err.fault ≡ Refused). c.args.read.now.refused (c.in-Err.is ∙ ap Err e) in
+    inl (inl (inr (ran_out c.in-Err.fault (asked_in c.args.read.now) (test_node path script) c.end_unasked.result
+    (g.K.Sink.held c.args.outside.now.sink) (g.K.Sink.held c.end_unasked.new.sink) none c.end_unasked.ensures.ran_out named)))
+
+pub returns-in-Err-clause-hub_test_read : goal.returns-in-Err-clause-hub_test_read
+returns-in-Err-clause-hub_test_read g c path named = reads_none (g.F.Files.loads c.args.outside.now.files) (path ∷ [])
+
+pub returns-in-Err-clause-node_test_read : goal.returns-in-Err-clause-node_test_read
+returns-in-Err-clause-node_test_read g c path script named = reads_none (g.F.Files.loads c.args.outside.now.files) (path ∷ script ∷ [])
+
+pub returns-in-Err-clause-no_hub : goal.returns-in-Err-clause-no_hub
+returns-in-Err-clause-no_hub g c path sessions journal stop_file named empty =
+    let none = λ (e : c.in-Err.fault ≡ Refused). c.args.read.now.refused (c.in-Err.is ∙ ap Err e) in
+    inr (inr (ran_out c.in-Err.fault (asked_in c.args.read.now) (hub path sessions journal stop_file) c.end_unasked.result
+    (g.K.Sink.held c.args.outside.now.sink) (g.K.Sink.held c.end_unasked.new.sink) none c.end_unasked.ensures.ran_out named))
+
+pub returns-in-Err-clause-node : goal.returns-in-Err-clause-node
+returns-in-Err-clause-node g c path script named =
+    let none = λ (e : c.in-Err.fault ≡ Refused). c.args.read.now.refused (c.in-Err.is ∙ ap Err e) in
+    inl (
+      refl,
+      inl (inr (ran_out c.in-Err.fault (asked_in c.args.read.now) (node path script) c.end_unasked.result
+          (g.K.Sink.held c.args.outside.now.sink) (g.K.Sink.held c.end_unasked.new.sink) none c.end_unasked.ensures.ran_out named)),
+    )
+
+pub returns-in-Err-clause-no_load : goal.returns-in-Err-clause-no_load
+returns-in-Err-clause-no_load g c n named empty =
+    let none = λ (e : c.in-Err.fault ≡ Refused). c.args.read.now.refused (c.in-Err.is ∙ ap Err e) in
+    ran_out c.in-Err.fault (asked_in c.args.read.now) (load n) c.end_unasked.result
+    (g.K.Sink.held c.args.outside.now.sink) (g.K.Sink.held c.end_unasked.new.sink) none c.end_unasked.ensures.ran_out named

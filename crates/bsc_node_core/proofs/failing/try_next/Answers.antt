@@ -31,5 +31,6 @@ returns-in-None c = on_ok_weaker c.give_up.result
     let w = sym (c.wanted-whom.ensures (slot_calls L) h.state.direct) in
     both-still b c.give_up.new.out c.give_up.new.state c.args.resolve.now L _ h.resolution
     (found-none (λ M. Stands (asked_by L b) c.give_up.new.out c.give_up.new.state M) L (next_uri c.args.k) (λ uri. does (Dial (Direct c.args.k) uri))
-    (in_order (where_found (wanted c.args.k) (λ v. tells (NoDirect v)) nothing ∷ ends b.made (Direct c.args.k) ∷ [])) (sym (c.in_ok-uri.ensures b c.args.out.now L k w h) ∙ c.in-None.is) (g (asked_by L b) L r w h.state)))
+    (in_order (where_found (wanted c.args.k) (λ v. tells (NoDirect v)) nothing ∷ ends b.made (Direct c.args.k) ∷ [])) (sym (c.in_ok-uri.ensures b c.args.out.now L k w h) ∙ c.in-None.is)
+    (g (asked_by L b) L r w h.state)))
     c.give_up.ensures

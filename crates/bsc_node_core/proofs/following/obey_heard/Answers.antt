@@ -7,11 +7,12 @@ use Rattle.bsc_node_core.proofs.Ticking.{heard-up, heard-nothing, told-with}
 use Rattle.bsc_node_core.proofs.following.obey_heard.Goals as goal
 
 pub returns-in-Some-clause-goes : goal.returns-in-Some-clause-goes
-returns-in-Some-clause-goes c = on_ok_weaker c.take_up.result
+returns-in-Some-clause-goes c = on_ok_weaker c.handle_message.result
     (λ g b L M rest n unicast r told.
-    heard-up b c.args.out.now _ c.args.state.now _ c.args.resolve.now _ L M c.args.name c.origin_in-origin.result c.message_in-passed.result c.args.step c.in-Some.message c.in-Up.is c.in-Some.is rest.2 r
+    heard-up b c.args.out.now _ c.args.state.now _ c.args.resolve.now _ L M c.args.name c.origin_in-origin.result c.message_in-passed.result c.args.step c.in-Some.message c.in-Up.is
+    c.in-Some.is rest.2 r
     (told-with (asked_by L b) c.args.out.now c.args.state.now M c.args.name _ _ _ _ _ c.origin_in-origin.ensures c.message_in-passed.ensures told) (λ both. g b M rest.0 n both))
-    c.take_up.ensures.goes
+    c.handle_message.ensures.goes
 
 pub returns-in-None-clause-goes : goal.returns-in-None-clause-goes
 returns-in-None-clause-goes c = λ b L M rest n unicast r told.
@@ -19,7 +20,9 @@ returns-in-None-clause-goes c = λ b L M rest n unicast r told.
     (told-with (asked_by L b) c.args.out.now c.args.state.now M c.args.name _ _ _ _ _ c.origin_in-origin.ensures c.message_in-passed.ensures told)
 
 pub returns-in_default-clause-goes : goal.returns-in_default-clause-goes
-returns-in_default-clause-goes c = on_ok_weaker c.obey.result
+returns-in_default-clause-goes c = on_ok_weaker c.apply_step.result
     (λ g b L M rest n unicast r told.
-    both-still b _ _ c.args.resolve.now L (M ++ obeys b.made c.args.name M) r (g (asked_by L b) M c.message_in-passed.result rest n unicast (λ e. absurd (c.in_default.not-Up e)) (told-with (asked_by L b) c.args.out.now c.args.state.now M c.args.name _ _ _ _ _ c.origin_in-origin.ensures c.message_in-passed.ensures told)))
-    c.obey.ensures
+    both-still b _ _ c.args.resolve.now L (M ++ obeys b.made c.args.name M) r
+    (g (asked_by L b) M c.message_in-passed.result rest n unicast (λ e. absurd (c.in_default.not-Up e))
+    (told-with (asked_by L b) c.args.out.now c.args.state.now M c.args.name _ _ _ _ _ c.origin_in-origin.ensures c.message_in-passed.ensures told)))
+    c.apply_step.ensures

@@ -7,4 +7,5 @@ use Rattle.bsc_node_core.proofs.receiving.drop_question.Goals as goal
 
 pub returns-in-Some : goal.returns-in-Some
 returns-in-Some c = λ b out s L h.
-    subst (λ (x : Option Vmac). BothStand b out s c.drop_question_of.new.resolve (L ++ with_some x (drops_question b.made c.args.function c.args.id) nothing L)) (sym c.in-Some.is) (c.drop_question_of.ensures b out s L h)
+    subst (λ (x : Option Vmac). BothStand b out s c.drop_question_of.new.resolve (L ++ with_some x (drops_question b.made c.args.function c.args.id) nothing L)) (sym c.in-Some.is)
+    (c.drop_question_of.ensures b out s L h)

@@ -20,12 +20,14 @@ pub returns-in-None-free : goal.returns-in-None-free
 returns-in-None-free c = on_ok_weaker c.tell-in-None-free.result
     (λ t b L m n h.
     both-slots_full b c.args.out.now _ c.args.state.now c.args.resolve.now L c.args.v c.in-Some-uris.field-0.now (sym (c.established.ensures (slot_calls L) h.state.direct) ∙ c.in-None.is)
-    (sym (c.uris.ensures b.made.limits.times.connect_wait (resolve_calls L) h.resolution) ∙ ap (λ o. option_copied o) c.in-Some-uris.is) (sym (c.free.ensures (slot_calls L) h.state.direct) ∙ c.in-None-free.is) t h)
+    (sym (c.uris.ensures b.made.limits.times.connect_wait (resolve_calls L) h.resolution) ∙ ap (λ o. option_copied o) c.in-Some-uris.is)
+    (sym (c.free.ensures (slot_calls L) h.state.direct) ∙ c.in-None-free.is) t h)
     c.tell-in-None-free.ensures
 
 pub returns-in-Some-free : goal.returns-in-Some-free
 returns-in-Some-free c = on_ok_weaker c.dial_first.result
     (λ g b L m n h.
     g b L c.in-Some-uris.field-0.now c.in-Some-free.field-0 m n (sym (c.established.ensures (slot_calls L) h.state.direct) ∙ c.in-None.is)
-    (sym (c.uris.ensures b.made.limits.times.connect_wait (resolve_calls L) h.resolution) ∙ ap (λ o. option_copied o) c.in-Some-uris.is) (sym (c.free.ensures (slot_calls L) h.state.direct) ∙ c.in-Some-free.is) h)
+    (sym (c.uris.ensures b.made.limits.times.connect_wait (resolve_calls L) h.resolution) ∙ ap (λ o. option_copied o) c.in-Some-uris.is)
+    (sym (c.free.ensures (slot_calls L) h.state.direct) ∙ c.in-Some-free.is) h)
     c.dial_first.ensures

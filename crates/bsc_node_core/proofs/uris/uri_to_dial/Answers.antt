@@ -12,7 +12,8 @@ loop-end-preserved c =
           (subst (λ n. IsRead c.args.text.now c.args.number (l.end + 1) (l.end + 1) n) (sym w.left-is)
           (elim w.if-is_ws_uri.branch [
             | then-is_ws_uri+else-left-eq0 x ↦ subst (λ n. IsRead c.args.text.now c.args.number (l.end + 1) (l.end + 1) n) (sym x.left-is)
-                (read-next c.args.text.now c.args.number l.start l.end l.left 0 l.invariant c.loop-end-test.true w.if-text-end-eq32.true (sym w.is_ws_uri.ensures ∙ x.if-is_ws_uri.true) (omega (arith, x.if-left-eq0.false)))
+                (read-next c.args.text.now c.args.number l.start l.end l.left 0 l.invariant c.loop-end-test.true w.if-text-end-eq32.true (sym w.is_ws_uri.ensures ∙ x.if-is_ws_uri.true)
+                (omega (arith, x.if-left-eq0.false)))
             | else-is_ws_uri x ↦ subst (λ n. IsRead c.args.text.now c.args.number (l.end + 1) (l.end + 1) n) (sym x.left-is)
                 (read-other c.args.text.now c.args.number l.start l.end l.left 0 l.invariant c.loop-end-test.true w.if-text-end-eq32.true (sym w.is_ws_uri.ensures ∙ x.if-is_ws_uri.false))
           ]))

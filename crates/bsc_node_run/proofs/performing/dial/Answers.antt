@@ -23,7 +23,8 @@ returns-in-Err-Failed-clause-dials g c =
     let after = dialling D.calls D.left D.came D.faults c.dial.new.self in
     on_ok c.note-in-Err-Failed.result
     (λ k h. dials_failed c.args.name c.args.uri.now (world_of c.args.set.now before h) (world_of c.note-in-Err-Failed.new.self after h)
-    (rw c.kind_of.ensures at c.in-Err-Failed.ensures.told) (rw c.in-Err-Failed.field-0-is at c.in-Err-Failed.ensures.left, c.in-Err-Failed.ensures.came, c.dial.ensures.failed (search rules)) (k after h))
+    (rw c.kind_of.ensures at c.in-Err-Failed.ensures.told) (rw c.in-Err-Failed.field-0-is at c.in-Err-Failed.ensures.left, c.in-Err-Failed.ensures.came, c.dial.ensures.failed (search rules))
+    (k after h))
     c.note-in-Err-Failed.ensures.news
 
 pub returns-in-Ok-clause-part : goal.returns-in-Ok-clause-part
@@ -37,7 +38,8 @@ returns-in-Ok-clause-part g c =
       c.in-Ok.ensures.left,
       c.in-Ok.ensures.came,
       refl,
-      same_then (world_of c.note.new.self after h) (world_of c.replace.new.self after h) (with_link c.args.name (Some c.in-Ok.link) (world_of c.args.set.now after h)) (k after h) (c.replace.ensures.new after h),
+      same_then (world_of c.note.new.self after h) (world_of c.replace.new.self after h) (with_link c.args.name (Some c.in-Ok.link) (world_of c.args.set.now after h)) (k after h)
+          (c.replace.ensures.new after h),
     ))
     c.note.ensures.missed
 
@@ -52,5 +54,11 @@ returns-in-Err-Failed-clause-part g c =
 pub returns-in-Err-NoMemory-clause-part : goal.returns-in-Err-NoMemory-clause-part
 returns-in-Err-NoMemory-clause-part g c h =
     let D = g.D.Dialer in
-    let after = dialling D.calls D.left D.came D.faults c.dial.new.self in
-    (Err NoMemory, rw c.kind_of.ensures at c.in-Err-NoMemory.ensures.told, rw c.in-Err-NoMemory.field-0-is at c.in-Err-NoMemory.ensures.left, c.in-Err-NoMemory.ensures.came, refl, same (world_of c.args.set.now after h))
+    let after = dialling D.calls D.left D.came D.faults c.dial.new.self in (
+      Err NoMemory,
+      rw c.kind_of.ensures at c.in-Err-NoMemory.ensures.told,
+      rw c.in-Err-NoMemory.field-0-is at c.in-Err-NoMemory.ensures.left,
+      c.in-Err-NoMemory.ensures.came,
+      refl,
+      same (world_of c.args.set.now after h),
+    )

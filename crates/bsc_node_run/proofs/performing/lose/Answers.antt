@@ -9,7 +9,8 @@ use Rattle.std.proofs.lemmas.Result.{on_err_weaker as on_err, on_ok_weaker as on
 
 pub returns-clause-lost : goal.returns-clause-lost
 returns-clause-lost g c = on_ok c.note.result
-    (λ k d h l e. same_then (world_of c.note.new.self d h) (with_news c.args.name Lost (world_of c.take_out.new.self d h)) (with_news c.args.name Lost (ends c.args.name l (world_of c.args.set.now d h)))
+    (λ k d h l e. same_then (world_of c.note.new.self d h) (with_news c.args.name Lost (world_of c.take_out.new.self d h))
+    (with_news c.args.name Lost (ends c.args.name l (world_of c.args.set.now d h)))
     (k d h) (on_news (world_of c.take_out.new.self d h) (ends c.args.name l (world_of c.args.set.now d h)) c.args.name Lost (c.in_ok-take_out.ensures.over d h l e)))
     c.note.ensures.news
 

@@ -16,4 +16,5 @@ returns-in-Some-clause-part g c = on_err c.close_link.result
     c.close_link.ensures.part
 
 pub returns-in-None-clause-refuses : goal.returns-in-None-clause-refuses
-returns-in-None-clause-refuses g c d h = refuses_none g.L.Link.talk c.args.closing (world_of c.args.set.now d h) (world_of c.take_arrived.new.self d h) c.in-None.ensures.old (c.in-None.ensures.new d h)
+returns-in-None-clause-refuses g c d h = refuses_none g.L.Link.talk c.args.closing (world_of c.args.set.now d h) (world_of c.take_arrived.new.self d h) c.in-None.ensures.old
+    (c.in-None.ensures.new d h)

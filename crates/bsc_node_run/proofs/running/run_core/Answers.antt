@@ -41,15 +41,26 @@ returns-then-set-clause-runs g c = record {
     dialled = refl;
     held = refl;
   };
-  went = turns_all (GoesDrawing g.N.Core.goes (Draws g.W.Words.gives g.W.Words.faults)) g.L.Link.talk c.args.terms.listens None c.args.terms.script.now (at_rest c.args.node.now c.args.parts.now.random) (world_of c.in_ok-set.set (dialling g.D.Dialer.calls g.D.Dialer.left g.D.Dialer.came g.D.Dialer.faults c.args.parts.now.dialer) (g.K.Sink.held c.args.sink.now)) (admitting g.A.Acceptor.left g.A.Acceptor.came g.A.Acceptor.waits c.args.acceptor.now)
-      (c.loop-made.invariant.times ++ c.in_ok-turn.turn.time ∷ []) (Some (unwrap_or c.loop-made.start c.in_ok-turn.turn.time)) c.in_ok-turn.turn.left.now (at_rest c.node_turn.new.node c.node_turn.new.parts.random) (world_of c.node_turn.new.set (dialling g.D.Dialer.calls g.D.Dialer.left g.D.Dialer.came g.D.Dialer.faults c.node_turn.new.parts.dialer) (g.K.Sink.held c.node_turn.new.sink)) (admitting g.A.Acceptor.left g.A.Acceptor.came g.A.Acceptor.waits c.node_turn.new.acceptor)
-      (turns_more (GoesDrawing g.N.Core.goes (Draws g.W.Words.gives g.W.Words.faults)) g.L.Link.talk c.args.terms.listens None c.args.terms.script.now (at_rest c.args.node.now c.args.parts.now.random) (world_of c.in_ok-set.set (dialling g.D.Dialer.calls g.D.Dialer.left g.D.Dialer.came g.D.Dialer.faults c.args.parts.now.dialer) (g.K.Sink.held c.args.sink.now)) (admitting g.A.Acceptor.left g.A.Acceptor.came g.A.Acceptor.waits c.args.acceptor.now)
-      c.loop-made.invariant.times c.in_ok-turn.turn.time c.loop-made.start c.loop-made.left.now c.in_ok-turn.turn.left.now (at_rest c.loop-made.node c.loop-made.parts.random) (at_rest c.node_turn.new.node c.node_turn.new.parts.random)
-      (world_of c.loop-made.set (dialling g.D.Dialer.calls g.D.Dialer.left g.D.Dialer.came g.D.Dialer.faults c.loop-made.parts.dialer) (g.K.Sink.held c.loop-made.sink)) (world_of c.node_turn.new.set (dialling g.D.Dialer.calls g.D.Dialer.left g.D.Dialer.came g.D.Dialer.faults c.node_turn.new.parts.dialer) (g.K.Sink.held c.node_turn.new.sink)) (admitting g.A.Acceptor.left g.A.Acceptor.came g.A.Acceptor.waits c.loop-made.acceptor) (admitting g.A.Acceptor.left g.A.Acceptor.came g.A.Acceptor.waits c.node_turn.new.acceptor)
+  went = turns_all (GoesDrawing g.N.Core.goes (Draws g.W.Words.gives g.W.Words.faults)) g.L.Link.talk c.args.terms.listens None c.args.terms.script.now
+      (at_rest c.args.node.now c.args.parts.now.random) (world_of c.in_ok-set.set (dialling g.D.Dialer.calls g.D.Dialer.left g.D.Dialer.came g.D.Dialer.faults c.args.parts.now.dialer)
+      (g.K.Sink.held c.args.sink.now)) (admitting g.A.Acceptor.left g.A.Acceptor.came g.A.Acceptor.waits c.args.acceptor.now)
+      (c.loop-made.invariant.times ++ c.in_ok-turn.turn.time ∷ []) (Some (unwrap_or c.loop-made.start c.in_ok-turn.turn.time)) c.in_ok-turn.turn.left.now
+      (at_rest c.node_turn.new.node c.node_turn.new.parts.random) (world_of c.node_turn.new.set
+      (dialling g.D.Dialer.calls g.D.Dialer.left g.D.Dialer.came g.D.Dialer.faults c.node_turn.new.parts.dialer) (g.K.Sink.held c.node_turn.new.sink))
+      (admitting g.A.Acceptor.left g.A.Acceptor.came g.A.Acceptor.waits c.node_turn.new.acceptor)
+      (turns_more (GoesDrawing g.N.Core.goes (Draws g.W.Words.gives g.W.Words.faults)) g.L.Link.talk c.args.terms.listens None c.args.terms.script.now
+      (at_rest c.args.node.now c.args.parts.now.random) (world_of c.in_ok-set.set (dialling g.D.Dialer.calls g.D.Dialer.left g.D.Dialer.came g.D.Dialer.faults c.args.parts.now.dialer)
+      (g.K.Sink.held c.args.sink.now)) (admitting g.A.Acceptor.left g.A.Acceptor.came g.A.Acceptor.waits c.args.acceptor.now)
+      c.loop-made.invariant.times c.in_ok-turn.turn.time c.loop-made.start c.loop-made.left.now c.in_ok-turn.turn.left.now (at_rest c.loop-made.node c.loop-made.parts.random)
+      (at_rest c.node_turn.new.node c.node_turn.new.parts.random)
+      (world_of c.loop-made.set (dialling g.D.Dialer.calls g.D.Dialer.left g.D.Dialer.came g.D.Dialer.faults c.loop-made.parts.dialer) (g.K.Sink.held c.loop-made.sink))
+      (world_of c.node_turn.new.set (dialling g.D.Dialer.calls g.D.Dialer.left g.D.Dialer.came g.D.Dialer.faults c.node_turn.new.parts.dialer) (g.K.Sink.held c.node_turn.new.sink))
+      (admitting g.A.Acceptor.left g.A.Acceptor.came g.A.Acceptor.waits c.loop-made.acceptor) (admitting g.A.Acceptor.left g.A.Acceptor.came g.A.Acceptor.waits c.node_turn.new.acceptor)
       c.loop-made.invariant.turns c.loop-made.invariant.going c.in_ok-turn.ensures.turns);
   dials = refl;
   holds = refl;
-  readings = grows_then (g.C.Clock.readings c.args.clock.now) (g.C.Clock.readings c.loop-made.clock) (g.C.Clock.readings c.node_turn.new.clock) c.loop-made.invariant.times (c.in_ok-turn.turn.time ∷ [])
+  readings = grows_then (g.C.Clock.readings c.args.clock.now) (g.C.Clock.readings c.loop-made.clock) (g.C.Clock.readings c.node_turn.new.clock) c.loop-made.invariant.times
+      (c.in_ok-turn.turn.time ∷ [])
       c.loop-made.invariant.readings c.in_ok-turn.ensures.reading;
   rise = rise_all 0 (c.loop-made.invariant.times ++ c.in_ok-turn.turn.time ∷ []) (g.C.Clock.newest c.node_turn.new.clock)
       (rise_more 0 c.loop-made.invariant.times (g.C.Clock.newest c.loop-made.clock) c.in_ok-turn.turn.time (g.C.Clock.newest c.node_turn.new.clock)
@@ -60,37 +71,56 @@ returns-then-set-clause-runs g c = record {
 pub loop-made-preserved : goal.loop-made-preserved
 loop-made-preserved g c = record {
   times = c.loop-made.invariant.times ++ c.in_ok-turn.turn.time ∷ [];
-  readings = grows_then (g.C.Clock.readings c.args.clock.now) (g.C.Clock.readings c.loop-made.clock) (g.C.Clock.readings c.node_turn.new.clock) c.loop-made.invariant.times (c.in_ok-turn.turn.time ∷ [])
+  readings = grows_then (g.C.Clock.readings c.args.clock.now) (g.C.Clock.readings c.loop-made.clock) (g.C.Clock.readings c.node_turn.new.clock) c.loop-made.invariant.times
+      (c.in_ok-turn.turn.time ∷ [])
       c.loop-made.invariant.readings c.in_ok-turn.ensures.reading;
   count = one_longer c.loop-made.invariant.times c.in_ok-turn.turn.time c.loop-made.made c.loop-made.invariant.count;
   going = c.if-set.false;
-  turns = λ more m v door k. turns_more (GoesDrawing g.N.Core.goes (Draws g.W.Words.gives g.W.Words.faults)) g.L.Link.talk c.args.terms.listens None c.args.terms.script.now (at_rest c.args.node.now c.args.parts.now.random) (world_of c.in_ok-set.set (dialling g.D.Dialer.calls g.D.Dialer.left g.D.Dialer.came g.D.Dialer.faults c.args.parts.now.dialer) (g.K.Sink.held c.args.sink.now)) (admitting g.A.Acceptor.left g.A.Acceptor.came g.A.Acceptor.waits c.args.acceptor.now)
-      c.loop-made.invariant.times c.in_ok-turn.turn.time c.loop-made.start c.loop-made.left.now c.in_ok-turn.turn.left.now (at_rest c.loop-made.node c.loop-made.parts.random) (at_rest c.node_turn.new.node c.node_turn.new.parts.random)
-      (world_of c.loop-made.set (dialling g.D.Dialer.calls g.D.Dialer.left g.D.Dialer.came g.D.Dialer.faults c.loop-made.parts.dialer) (g.K.Sink.held c.loop-made.sink)) (world_of c.node_turn.new.set (dialling g.D.Dialer.calls g.D.Dialer.left g.D.Dialer.came g.D.Dialer.faults c.node_turn.new.parts.dialer) (g.K.Sink.held c.node_turn.new.sink)) (admitting g.A.Acceptor.left g.A.Acceptor.came g.A.Acceptor.waits c.loop-made.acceptor) (admitting g.A.Acceptor.left g.A.Acceptor.came g.A.Acceptor.waits c.node_turn.new.acceptor)
+  turns = λ more m v door k. turns_more (GoesDrawing g.N.Core.goes (Draws g.W.Words.gives g.W.Words.faults)) g.L.Link.talk c.args.terms.listens None c.args.terms.script.now
+      (at_rest c.args.node.now c.args.parts.now.random) (world_of c.in_ok-set.set (dialling g.D.Dialer.calls g.D.Dialer.left g.D.Dialer.came g.D.Dialer.faults c.args.parts.now.dialer)
+      (g.K.Sink.held c.args.sink.now)) (admitting g.A.Acceptor.left g.A.Acceptor.came g.A.Acceptor.waits c.args.acceptor.now)
+      c.loop-made.invariant.times c.in_ok-turn.turn.time c.loop-made.start c.loop-made.left.now c.in_ok-turn.turn.left.now (at_rest c.loop-made.node c.loop-made.parts.random)
+      (at_rest c.node_turn.new.node c.node_turn.new.parts.random)
+      (world_of c.loop-made.set (dialling g.D.Dialer.calls g.D.Dialer.left g.D.Dialer.came g.D.Dialer.faults c.loop-made.parts.dialer) (g.K.Sink.held c.loop-made.sink))
+      (world_of c.node_turn.new.set (dialling g.D.Dialer.calls g.D.Dialer.left g.D.Dialer.came g.D.Dialer.faults c.node_turn.new.parts.dialer) (g.K.Sink.held c.node_turn.new.sink))
+      (admitting g.A.Acceptor.left g.A.Acceptor.came g.A.Acceptor.waits c.loop-made.acceptor) (admitting g.A.Acceptor.left g.A.Acceptor.came g.A.Acceptor.waits c.node_turn.new.acceptor)
       c.loop-made.invariant.turns c.loop-made.invariant.going c.in_ok-turn.ensures.turns
       more m v door (rw c.unwrap_or.ensures at k);
-  stops = λ more v door k. stops_more (GoesDrawing g.N.Core.goes (Draws g.W.Words.gives g.W.Words.faults)) g.L.Link.talk c.args.terms.listens None c.args.terms.script.now (at_rest c.args.node.now c.args.parts.now.random) (world_of c.in_ok-set.set (dialling g.D.Dialer.calls g.D.Dialer.left g.D.Dialer.came g.D.Dialer.faults c.args.parts.now.dialer) (g.K.Sink.held c.args.sink.now)) (admitting g.A.Acceptor.left g.A.Acceptor.came g.A.Acceptor.waits c.args.acceptor.now)
-      c.loop-made.invariant.times c.in_ok-turn.turn.time c.loop-made.start c.loop-made.left.now c.in_ok-turn.turn.left.now (at_rest c.loop-made.node c.loop-made.parts.random) (at_rest c.node_turn.new.node c.node_turn.new.parts.random)
-      (world_of c.loop-made.set (dialling g.D.Dialer.calls g.D.Dialer.left g.D.Dialer.came g.D.Dialer.faults c.loop-made.parts.dialer) (g.K.Sink.held c.loop-made.sink)) (world_of c.node_turn.new.set (dialling g.D.Dialer.calls g.D.Dialer.left g.D.Dialer.came g.D.Dialer.faults c.node_turn.new.parts.dialer) (g.K.Sink.held c.node_turn.new.sink)) (admitting g.A.Acceptor.left g.A.Acceptor.came g.A.Acceptor.waits c.loop-made.acceptor) (admitting g.A.Acceptor.left g.A.Acceptor.came g.A.Acceptor.waits c.node_turn.new.acceptor)
+  stops = λ more v door k. stops_more (GoesDrawing g.N.Core.goes (Draws g.W.Words.gives g.W.Words.faults)) g.L.Link.talk c.args.terms.listens None c.args.terms.script.now
+      (at_rest c.args.node.now c.args.parts.now.random) (world_of c.in_ok-set.set (dialling g.D.Dialer.calls g.D.Dialer.left g.D.Dialer.came g.D.Dialer.faults c.args.parts.now.dialer)
+      (g.K.Sink.held c.args.sink.now)) (admitting g.A.Acceptor.left g.A.Acceptor.came g.A.Acceptor.waits c.args.acceptor.now)
+      c.loop-made.invariant.times c.in_ok-turn.turn.time c.loop-made.start c.loop-made.left.now c.in_ok-turn.turn.left.now (at_rest c.loop-made.node c.loop-made.parts.random)
+      (at_rest c.node_turn.new.node c.node_turn.new.parts.random)
+      (world_of c.loop-made.set (dialling g.D.Dialer.calls g.D.Dialer.left g.D.Dialer.came g.D.Dialer.faults c.loop-made.parts.dialer) (g.K.Sink.held c.loop-made.sink))
+      (world_of c.node_turn.new.set (dialling g.D.Dialer.calls g.D.Dialer.left g.D.Dialer.came g.D.Dialer.faults c.node_turn.new.parts.dialer) (g.K.Sink.held c.node_turn.new.sink))
+      (admitting g.A.Acceptor.left g.A.Acceptor.came g.A.Acceptor.waits c.loop-made.acceptor) (admitting g.A.Acceptor.left g.A.Acceptor.came g.A.Acceptor.waits c.node_turn.new.acceptor)
       c.loop-made.invariant.stops c.loop-made.invariant.going c.in_ok-turn.ensures.turns
       more v door (rw c.unwrap_or.ensures at k);
   rise = rise_more 0 c.loop-made.invariant.times (g.C.Clock.newest c.loop-made.clock) c.in_ok-turn.turn.time (g.C.Clock.newest c.node_turn.new.clock)
       c.loop-made.invariant.rise c.in_ok-turn.ensures.rises c.in_ok-turn.ensures.below c.in_ok-turn.ensures.newest;
   waits = c.loop-made.invariant.waits ++ c.loop-made.wait_ms ∷ [];
-  asked = grows_still (g.V.Waiter.waits c.args.parts.now.waiter) (g.V.Waiter.waits c.wait.new.self) (g.V.Waiter.waits c.node_turn.new.parts.waiter) (c.loop-made.invariant.waits ++ c.loop-made.wait_ms ∷ []) (ap g.V.Waiter.waits c.node_turn.ensures.waiter)
-      (grows_then (g.V.Waiter.waits c.args.parts.now.waiter) (g.V.Waiter.waits c.loop-made.parts.waiter) (g.V.Waiter.waits c.wait.new.self) c.loop-made.invariant.waits (c.loop-made.wait_ms ∷ []) c.loop-made.invariant.asked c.wait.ensures.told);
+  asked = grows_still (g.V.Waiter.waits c.args.parts.now.waiter) (g.V.Waiter.waits c.wait.new.self) (g.V.Waiter.waits c.node_turn.new.parts.waiter)
+      (c.loop-made.invariant.waits ++ c.loop-made.wait_ms ∷ []) (ap g.V.Waiter.waits c.node_turn.ensures.waiter)
+      (grows_then (g.V.Waiter.waits c.args.parts.now.waiter) (g.V.Waiter.waits c.loop-made.parts.waiter) (g.V.Waiter.waits c.wait.new.self) c.loop-made.invariant.waits
+      (c.loop-made.wait_ms ∷ []) c.loop-made.invariant.asked c.wait.ensures.told);
   newest = c.in_ok-turn.turn.time;
-  rest = rest_so c.in_ok-turn.turn.time c.unwrap_or.result c.passed_by.result c.rest_ms-wait_ms.result c.in_ok-turn.turn.left.now c.node_turn.new.set.waiting.items c.passed_by.ensures c.rest_ms-wait_ms.ensures;
+  rest = rest_so c.in_ok-turn.turn.time c.unwrap_or.result c.passed_by.result c.rest_ms-wait_ms.result c.in_ok-turn.turn.left.now c.node_turn.new.set.waiting.items c.passed_by.ensures
+      c.rest_ms-wait_ms.ensures;
   rests = rested_more (GoesDrawing g.N.Core.goes (Draws g.W.Words.gives g.W.Words.faults)) g.L.Link.talk c.args.terms.listens c.args.terms.script.now
-      (moment (at_rest c.args.node.now c.args.parts.now.random) (world_of c.in_ok-set.set (dialling g.D.Dialer.calls g.D.Dialer.left g.D.Dialer.came g.D.Dialer.faults c.args.parts.now.dialer) (g.K.Sink.held c.args.sink.now)) (admitting g.A.Acceptor.left g.A.Acceptor.came g.A.Acceptor.waits c.args.acceptor.now))
-      c.loop-made.invariant.times c.loop-made.invariant.waits c.loop-made.start c.loop-made.invariant.newest c.in_ok-turn.turn.time c.unwrap_or.result c.loop-made.wait_ms c.loop-made.left.now c.in_ok-turn.turn.left.now
+      (moment (at_rest c.args.node.now c.args.parts.now.random) (world_of c.in_ok-set.set
+      (dialling g.D.Dialer.calls g.D.Dialer.left g.D.Dialer.came g.D.Dialer.faults c.args.parts.now.dialer) (g.K.Sink.held c.args.sink.now))
+      (admitting g.A.Acceptor.left g.A.Acceptor.came g.A.Acceptor.waits c.args.acceptor.now))
+      c.loop-made.invariant.times c.loop-made.invariant.waits c.loop-made.start c.loop-made.invariant.newest c.in_ok-turn.turn.time c.unwrap_or.result c.loop-made.wait_ms
+      c.loop-made.left.now c.in_ok-turn.turn.left.now
       (at_rest c.loop-made.node c.loop-made.parts.random) (at_rest c.node_turn.new.node c.node_turn.new.parts.random)
-      (world_of c.loop-made.set (dialling g.D.Dialer.calls g.D.Dialer.left g.D.Dialer.came g.D.Dialer.faults c.loop-made.parts.dialer) (g.K.Sink.held c.loop-made.sink)) (world_of c.node_turn.new.set (dialling g.D.Dialer.calls g.D.Dialer.left g.D.Dialer.came g.D.Dialer.faults c.node_turn.new.parts.dialer) (g.K.Sink.held c.node_turn.new.sink))
+      (world_of c.loop-made.set (dialling g.D.Dialer.calls g.D.Dialer.left g.D.Dialer.came g.D.Dialer.faults c.loop-made.parts.dialer) (g.K.Sink.held c.loop-made.sink))
+      (world_of c.node_turn.new.set (dialling g.D.Dialer.calls g.D.Dialer.left g.D.Dialer.came g.D.Dialer.faults c.node_turn.new.parts.dialer) (g.K.Sink.held c.node_turn.new.sink))
       (admitting g.A.Acceptor.left g.A.Acceptor.came g.A.Acceptor.waits c.loop-made.acceptor) (admitting g.A.Acceptor.left g.A.Acceptor.came g.A.Acceptor.waits c.node_turn.new.acceptor)
       c.loop-made.invariant.rests c.loop-made.invariant.rest c.unwrap_or.ensures c.in_ok-turn.ensures.turns;
   writes_later = omega (arith, c.loop-made.invariant.writes_later, c.node_turn.ensures.later);
   links_later = omega (arith, c.loop-made.invariant.links_later, c.node_turn.ensures.arrivals);
-  bound = stays_then (g.A.Acceptor.bound c.args.acceptor.now) (g.A.Acceptor.bound c.loop-made.acceptor) (g.A.Acceptor.bound c.node_turn.new.acceptor) c.loop-made.invariant.bound c.node_turn.ensures.bound;
+  bound = stays_then (g.A.Acceptor.bound c.args.acceptor.now) (g.A.Acceptor.bound c.loop-made.acceptor)
+      (g.A.Acceptor.bound c.node_turn.new.acceptor) c.loop-made.invariant.bound c.node_turn.ensures.bound;
 }
 
 pub returns-clause-runs : goal.returns-clause-runs
@@ -107,8 +137,12 @@ returns-clause-runs g c = record {
     dialled = refl;
     held = refl;
   };
-  went = turns_all (GoesDrawing g.N.Core.goes (Draws g.W.Words.gives g.W.Words.faults)) g.L.Link.talk c.args.terms.listens None c.args.terms.script.now (at_rest c.args.node.now c.args.parts.now.random) (world_of c.in_ok-set.set (dialling g.D.Dialer.calls g.D.Dialer.left g.D.Dialer.came g.D.Dialer.faults c.args.parts.now.dialer) (g.K.Sink.held c.args.sink.now)) (admitting g.A.Acceptor.left g.A.Acceptor.came g.A.Acceptor.waits c.args.acceptor.now)
-      c.loop-made.invariant.times c.loop-made.start c.loop-made.left.now (at_rest c.loop-made.node c.loop-made.parts.random) (world_of c.loop-made.set (dialling g.D.Dialer.calls g.D.Dialer.left g.D.Dialer.came g.D.Dialer.faults c.loop-made.parts.dialer) (g.K.Sink.held c.loop-made.sink)) (admitting g.A.Acceptor.left g.A.Acceptor.came g.A.Acceptor.waits c.loop-made.acceptor)
+  went = turns_all (GoesDrawing g.N.Core.goes (Draws g.W.Words.gives g.W.Words.faults)) g.L.Link.talk c.args.terms.listens None c.args.terms.script.now
+      (at_rest c.args.node.now c.args.parts.now.random) (world_of c.in_ok-set.set (dialling g.D.Dialer.calls g.D.Dialer.left g.D.Dialer.came g.D.Dialer.faults c.args.parts.now.dialer)
+      (g.K.Sink.held c.args.sink.now)) (admitting g.A.Acceptor.left g.A.Acceptor.came g.A.Acceptor.waits c.args.acceptor.now)
+      c.loop-made.invariant.times c.loop-made.start c.loop-made.left.now (at_rest c.loop-made.node c.loop-made.parts.random)
+      (world_of c.loop-made.set (dialling g.D.Dialer.calls g.D.Dialer.left g.D.Dialer.came g.D.Dialer.faults c.loop-made.parts.dialer) (g.K.Sink.held c.loop-made.sink))
+      (admitting g.A.Acceptor.left g.A.Acceptor.came g.A.Acceptor.waits c.loop-made.acceptor)
       c.loop-made.invariant.turns;
   dials = refl;
   holds = refl;
@@ -138,9 +172,14 @@ returns-in_err-turn-clause-fails g c =
         dialled = refl;
         held = refl;
       };
-      went = stops_now (GoesDrawing g.N.Core.goes (Draws g.W.Words.gives g.W.Words.faults)) g.L.Link.talk c.args.terms.listens None c.args.terms.script.now (at_rest c.args.node.now c.args.parts.now.random) (world_of c.in_ok-set.set (dialling g.D.Dialer.calls g.D.Dialer.left g.D.Dialer.came g.D.Dialer.faults c.args.parts.now.dialer) (g.K.Sink.held c.args.sink.now)) (admitting g.A.Acceptor.left g.A.Acceptor.came g.A.Acceptor.waits c.args.acceptor.now)
-          c.loop-made.invariant.times k.0 c.loop-made.start c.loop-made.left.now (at_rest c.loop-made.node c.loop-made.parts.random) (world_of c.loop-made.set (dialling g.D.Dialer.calls g.D.Dialer.left g.D.Dialer.came g.D.Dialer.faults c.loop-made.parts.dialer) (g.K.Sink.held c.loop-made.sink)) (world_of c.node_turn.new.set (dialling g.D.Dialer.calls g.D.Dialer.left g.D.Dialer.came g.D.Dialer.faults c.node_turn.new.parts.dialer) (g.K.Sink.held c.node_turn.new.sink))
-          (admitting g.A.Acceptor.left g.A.Acceptor.came g.A.Acceptor.waits c.loop-made.acceptor) (admitting g.A.Acceptor.left g.A.Acceptor.came g.A.Acceptor.waits c.node_turn.new.acceptor) c.loop-made.invariant.stops c.loop-made.invariant.going k.4;
+      went = stops_now (GoesDrawing g.N.Core.goes (Draws g.W.Words.gives g.W.Words.faults)) g.L.Link.talk c.args.terms.listens None c.args.terms.script.now
+          (at_rest c.args.node.now c.args.parts.now.random) (world_of c.in_ok-set.set (dialling g.D.Dialer.calls g.D.Dialer.left g.D.Dialer.came g.D.Dialer.faults c.args.parts.now.dialer)
+          (g.K.Sink.held c.args.sink.now)) (admitting g.A.Acceptor.left g.A.Acceptor.came g.A.Acceptor.waits c.args.acceptor.now)
+          c.loop-made.invariant.times k.0 c.loop-made.start c.loop-made.left.now (at_rest c.loop-made.node c.loop-made.parts.random)
+          (world_of c.loop-made.set (dialling g.D.Dialer.calls g.D.Dialer.left g.D.Dialer.came g.D.Dialer.faults c.loop-made.parts.dialer) (g.K.Sink.held c.loop-made.sink))
+          (world_of c.node_turn.new.set (dialling g.D.Dialer.calls g.D.Dialer.left g.D.Dialer.came g.D.Dialer.faults c.node_turn.new.parts.dialer) (g.K.Sink.held c.node_turn.new.sink))
+          (admitting g.A.Acceptor.left g.A.Acceptor.came g.A.Acceptor.waits c.loop-made.acceptor)
+          (admitting g.A.Acceptor.left g.A.Acceptor.came g.A.Acceptor.waits c.node_turn.new.acceptor) c.loop-made.invariant.stops c.loop-made.invariant.going k.4;
       dials = refl;
       holds = refl;
       readings = grows_then (g.C.Clock.readings c.args.clock.now) (g.C.Clock.readings c.loop-made.clock) (g.C.Clock.readings c.node_turn.new.clock) c.loop-made.invariant.times (k.0 ∷ [])
@@ -173,12 +212,17 @@ returns-in_err-turn-clause-rests g c = (
   rise_now 0 c.loop-made.invariant.times (g.C.Clock.newest c.loop-made.clock) c.in_err-turn.ensures.stops.0 c.loop-made.invariant.rise c.in_err-turn.ensures.stops.3 c.in_err-turn.ensures.stops.2,
   grows_then (g.C.Clock.readings c.args.clock.now) (g.C.Clock.readings c.loop-made.clock) (g.C.Clock.readings c.node_turn.new.clock) c.loop-made.invariant.times (c.in_err-turn.ensures.stops.0 ∷ [])
       c.loop-made.invariant.readings c.in_err-turn.ensures.stops.1,
-  grows_still (g.V.Waiter.waits c.args.parts.now.waiter) (g.V.Waiter.waits c.wait.new.self) (g.V.Waiter.waits c.node_turn.new.parts.waiter) (c.loop-made.invariant.waits ++ c.loop-made.wait_ms ∷ []) (ap g.V.Waiter.waits c.node_turn.ensures.waiter)
-      (grows_then (g.V.Waiter.waits c.args.parts.now.waiter) (g.V.Waiter.waits c.loop-made.parts.waiter) (g.V.Waiter.waits c.wait.new.self) c.loop-made.invariant.waits (c.loop-made.wait_ms ∷ []) c.loop-made.invariant.asked c.wait.ensures.told),
+  grows_still (g.V.Waiter.waits c.args.parts.now.waiter) (g.V.Waiter.waits c.wait.new.self) (g.V.Waiter.waits c.node_turn.new.parts.waiter)
+      (c.loop-made.invariant.waits ++ c.loop-made.wait_ms ∷ []) (ap g.V.Waiter.waits c.node_turn.ensures.waiter)
+      (grows_then (g.V.Waiter.waits c.args.parts.now.waiter) (g.V.Waiter.waits c.loop-made.parts.waiter) (g.V.Waiter.waits c.wait.new.self) c.loop-made.invariant.waits
+      (c.loop-made.wait_ms ∷ []) c.loop-made.invariant.asked c.wait.ensures.told),
   rested_now (GoesDrawing g.N.Core.goes (Draws g.W.Words.gives g.W.Words.faults)) g.L.Link.talk c.args.terms.listens c.args.terms.script.now
-      (moment (at_rest c.args.node.now c.args.parts.now.random) (world_of c.in_ok-set.set (dialling g.D.Dialer.calls g.D.Dialer.left g.D.Dialer.came g.D.Dialer.faults c.args.parts.now.dialer) (g.K.Sink.held c.args.sink.now)) (admitting g.A.Acceptor.left g.A.Acceptor.came g.A.Acceptor.waits c.args.acceptor.now))
+      (moment (at_rest c.args.node.now c.args.parts.now.random) (world_of c.in_ok-set.set
+      (dialling g.D.Dialer.calls g.D.Dialer.left g.D.Dialer.came g.D.Dialer.faults c.args.parts.now.dialer) (g.K.Sink.held c.args.sink.now))
+      (admitting g.A.Acceptor.left g.A.Acceptor.came g.A.Acceptor.waits c.args.acceptor.now))
       c.loop-made.invariant.times c.loop-made.invariant.waits c.loop-made.start c.loop-made.invariant.newest c.in_err-turn.ensures.stops.0 c.loop-made.wait_ms c.loop-made.left.now
-      (at_rest c.loop-made.node c.loop-made.parts.random) (world_of c.loop-made.set (dialling g.D.Dialer.calls g.D.Dialer.left g.D.Dialer.came g.D.Dialer.faults c.loop-made.parts.dialer) (g.K.Sink.held c.loop-made.sink)) (admitting g.A.Acceptor.left g.A.Acceptor.came g.A.Acceptor.waits c.loop-made.acceptor)
+      (at_rest c.loop-made.node c.loop-made.parts.random) (world_of c.loop-made.set (dialling g.D.Dialer.calls g.D.Dialer.left g.D.Dialer.came g.D.Dialer.faults c.loop-made.parts.dialer)
+      (g.K.Sink.held c.loop-made.sink)) (admitting g.A.Acceptor.left g.A.Acceptor.came g.A.Acceptor.waits c.loop-made.acceptor)
       c.loop-made.invariant.rests c.loop-made.invariant.rest,
 )
 
@@ -199,12 +243,17 @@ returns-then-set-clause-rests g c = (
   rise_now 0 c.loop-made.invariant.times (g.C.Clock.newest c.loop-made.clock) c.in_ok-turn.turn.time c.loop-made.invariant.rise c.in_ok-turn.ensures.rises c.in_ok-turn.ensures.below,
   grows_then (g.C.Clock.readings c.args.clock.now) (g.C.Clock.readings c.loop-made.clock) (g.C.Clock.readings c.node_turn.new.clock) c.loop-made.invariant.times (c.in_ok-turn.turn.time ∷ [])
       c.loop-made.invariant.readings c.in_ok-turn.ensures.reading,
-  grows_still (g.V.Waiter.waits c.args.parts.now.waiter) (g.V.Waiter.waits c.wait.new.self) (g.V.Waiter.waits c.node_turn.new.parts.waiter) (c.loop-made.invariant.waits ++ c.loop-made.wait_ms ∷ []) (ap g.V.Waiter.waits c.node_turn.ensures.waiter)
-      (grows_then (g.V.Waiter.waits c.args.parts.now.waiter) (g.V.Waiter.waits c.loop-made.parts.waiter) (g.V.Waiter.waits c.wait.new.self) c.loop-made.invariant.waits (c.loop-made.wait_ms ∷ []) c.loop-made.invariant.asked c.wait.ensures.told),
+  grows_still (g.V.Waiter.waits c.args.parts.now.waiter) (g.V.Waiter.waits c.wait.new.self) (g.V.Waiter.waits c.node_turn.new.parts.waiter)
+      (c.loop-made.invariant.waits ++ c.loop-made.wait_ms ∷ []) (ap g.V.Waiter.waits c.node_turn.ensures.waiter)
+      (grows_then (g.V.Waiter.waits c.args.parts.now.waiter) (g.V.Waiter.waits c.loop-made.parts.waiter) (g.V.Waiter.waits c.wait.new.self) c.loop-made.invariant.waits
+      (c.loop-made.wait_ms ∷ []) c.loop-made.invariant.asked c.wait.ensures.told),
   rested_now (GoesDrawing g.N.Core.goes (Draws g.W.Words.gives g.W.Words.faults)) g.L.Link.talk c.args.terms.listens c.args.terms.script.now
-      (moment (at_rest c.args.node.now c.args.parts.now.random) (world_of c.in_ok-set.set (dialling g.D.Dialer.calls g.D.Dialer.left g.D.Dialer.came g.D.Dialer.faults c.args.parts.now.dialer) (g.K.Sink.held c.args.sink.now)) (admitting g.A.Acceptor.left g.A.Acceptor.came g.A.Acceptor.waits c.args.acceptor.now))
+      (moment (at_rest c.args.node.now c.args.parts.now.random) (world_of c.in_ok-set.set
+      (dialling g.D.Dialer.calls g.D.Dialer.left g.D.Dialer.came g.D.Dialer.faults c.args.parts.now.dialer) (g.K.Sink.held c.args.sink.now))
+      (admitting g.A.Acceptor.left g.A.Acceptor.came g.A.Acceptor.waits c.args.acceptor.now))
       c.loop-made.invariant.times c.loop-made.invariant.waits c.loop-made.start c.loop-made.invariant.newest c.in_ok-turn.turn.time c.loop-made.wait_ms c.loop-made.left.now
-      (at_rest c.loop-made.node c.loop-made.parts.random) (world_of c.loop-made.set (dialling g.D.Dialer.calls g.D.Dialer.left g.D.Dialer.came g.D.Dialer.faults c.loop-made.parts.dialer) (g.K.Sink.held c.loop-made.sink)) (admitting g.A.Acceptor.left g.A.Acceptor.came g.A.Acceptor.waits c.loop-made.acceptor)
+      (at_rest c.loop-made.node c.loop-made.parts.random) (world_of c.loop-made.set (dialling g.D.Dialer.calls g.D.Dialer.left g.D.Dialer.came g.D.Dialer.faults c.loop-made.parts.dialer)
+      (g.K.Sink.held c.loop-made.sink)) (admitting g.A.Acceptor.left g.A.Acceptor.came g.A.Acceptor.waits c.loop-made.acceptor)
       c.loop-made.invariant.rests c.loop-made.invariant.rest,
 )
 
@@ -226,6 +275,11 @@ returns-clause-rests g c = (
   c.loop-made.invariant.readings,
   c.loop-made.invariant.asked,
   rested_all (GoesDrawing g.N.Core.goes (Draws g.W.Words.gives g.W.Words.faults)) g.L.Link.talk c.args.terms.listens c.args.terms.script.now
-      (moment (at_rest c.args.node.now c.args.parts.now.random) (world_of c.in_ok-set.set (dialling g.D.Dialer.calls g.D.Dialer.left g.D.Dialer.came g.D.Dialer.faults c.args.parts.now.dialer) (g.K.Sink.held c.args.sink.now)) (admitting g.A.Acceptor.left g.A.Acceptor.came g.A.Acceptor.waits c.args.acceptor.now))
-      c.loop-made.invariant.times c.loop-made.invariant.waits c.loop-made.start c.loop-made.invariant.newest c.loop-made.left.now (moment (at_rest c.loop-made.node c.loop-made.parts.random) (world_of c.loop-made.set (dialling g.D.Dialer.calls g.D.Dialer.left g.D.Dialer.came g.D.Dialer.faults c.loop-made.parts.dialer) (g.K.Sink.held c.loop-made.sink)) (admitting g.A.Acceptor.left g.A.Acceptor.came g.A.Acceptor.waits c.loop-made.acceptor)) c.loop-made.invariant.rests,
+      (moment (at_rest c.args.node.now c.args.parts.now.random) (world_of c.in_ok-set.set
+      (dialling g.D.Dialer.calls g.D.Dialer.left g.D.Dialer.came g.D.Dialer.faults c.args.parts.now.dialer) (g.K.Sink.held c.args.sink.now))
+      (admitting g.A.Acceptor.left g.A.Acceptor.came g.A.Acceptor.waits c.args.acceptor.now))
+      c.loop-made.invariant.times c.loop-made.invariant.waits c.loop-made.start c.loop-made.invariant.newest c.loop-made.left.now
+      (moment (at_rest c.loop-made.node c.loop-made.parts.random) (world_of c.loop-made.set
+      (dialling g.D.Dialer.calls g.D.Dialer.left g.D.Dialer.came g.D.Dialer.faults c.loop-made.parts.dialer) (g.K.Sink.held c.loop-made.sink))
+      (admitting g.A.Acceptor.left g.A.Acceptor.came g.A.Acceptor.waits c.loop-made.acceptor)) c.loop-made.invariant.rests,
 )

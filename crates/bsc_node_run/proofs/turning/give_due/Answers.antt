@@ -16,13 +16,24 @@ pub loop-left-preserved : goal.loop-left-preserved
 loop-left-preserved g c = record {
   gives = λ lines rest m v parts due k. c.loop-left.invariant.gives (c.due-item.result ∷ lines) rest m v
       (cut_first c.loop-left.left.now _ c.due-item.result _ c.in-len1-up.len_at_least c.due-item.is parts)
-      (omega (arith, c.if-at-due.false), due)
-      ((at_rest c.give.new.node c.give.new.random), (world_of c.give.new.set (dialling g.D.Dialer.calls g.D.Dialer.left g.D.Dialer.came g.D.Dialer.faults c.give.new.dialer) (g.K.Sink.held c.give.new.sink)), c.in_ok-give.ensures.gives, k);
+      (omega (arith, c.if-at-due.false), due) (
+        (at_rest c.dispatch.new.node c.dispatch.new.random),
+        (world_of c.dispatch.new.set (dialling g.D.Dialer.calls g.D.Dialer.left g.D.Dialer.came g.D.Dialer.faults c.dispatch.new.dialer)
+            (g.K.Sink.held c.dispatch.new.sink)),
+        c.in_ok-dispatch.ensures.gives,
+        k,
+      );
   stops = λ lines rest v parts due k. c.loop-left.invariant.stops (c.due-item.result ∷ lines) rest v
       (cut_first c.loop-left.left.now _ c.due-item.result _ c.in-len1-up.len_at_least c.due-item.is parts)
       (omega (arith, c.if-at-due.false), due)
-      (inr ((at_rest c.give.new.node c.give.new.random), (world_of c.give.new.set (dialling g.D.Dialer.calls g.D.Dialer.left g.D.Dialer.came g.D.Dialer.faults c.give.new.dialer) (g.K.Sink.held c.give.new.sink)), c.in_ok-give.ensures.gives, k));
-  later = omega (arith, c.loop-left.invariant.later, c.give.ensures.later);
+      (inr (
+        (at_rest c.dispatch.new.node c.dispatch.new.random),
+        (world_of c.dispatch.new.set
+            (dialling g.D.Dialer.calls g.D.Dialer.left g.D.Dialer.came g.D.Dialer.faults c.dispatch.new.dialer) (g.K.Sink.held c.dispatch.new.sink)),
+        c.in_ok-dispatch.ensures.gives,
+        k,
+      ));
+  later = omega (arith, c.loop-left.invariant.later, c.dispatch.ensures.later);
 }
 
 pub returns-clause-gives : goal.returns-clause-gives
@@ -31,8 +42,9 @@ returns-clause-gives g c =
     let k = c.loop-left.invariant.gives [] c.loop-left.left.now (at_rest c.loop-left.node c.loop-left.random) w refl tt (refl, same w) in
     (k.0, k.1, k.2, none_due c.args.at.passed c.loop-left.left.now c.in_default.len_below, k.3)
 
-pub returns-in_err-give-clause-stops : goal.returns-in_err-give-clause-stops
-returns-in_err-give-clause-stops g c =
-    at_err _ (c.loop-left.invariant.stops (c.due-item.result ∷ []) _ (world_of c.give.new.set (dialling g.D.Dialer.calls g.D.Dialer.left g.D.Dialer.came g.D.Dialer.faults c.give.new.dialer) (g.K.Sink.held c.give.new.sink))
+pub returns-in_err-dispatch-clause-stops : goal.returns-in_err-dispatch-clause-stops
+returns-in_err-dispatch-clause-stops g c =
+    at_err _ (c.loop-left.invariant.stops (c.due-item.result ∷ []) _ (world_of c.dispatch.new.set
+    (dialling g.D.Dialer.calls g.D.Dialer.left g.D.Dialer.came g.D.Dialer.faults c.dispatch.new.dialer) (g.K.Sink.held c.dispatch.new.sink))
     (cut_first c.loop-left.left.now _ c.due-item.result _ c.in-len1-up.len_at_least c.due-item.is refl)
-    (omega (arith, c.if-at-due.false), tt) (inl c.in_err-give.ensures.stops))
+    (omega (arith, c.if-at-due.false), tt) (inl c.in_err-dispatch.ensures.stops))

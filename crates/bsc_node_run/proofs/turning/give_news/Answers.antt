@@ -8,10 +8,11 @@ use Rattle.bsc_node_run.proofs.turning.give_news.Goals as goal
 
 pub loop-news-smaller : goal.loop-news-smaller
 loop-news-smaller g c =
-    let k = gives_fewer (GoesDrawing g.N.Core.goes (Draws g.W.Words.gives g.W.Words.faults)) g.L.Link.talk c.args.at.time c.event_of.result (at_rest c.loop-news.node c.loop-news.random) (at_rest c.give.new.node c.give.new.random)
+    let k = gives_fewer (GoesDrawing g.N.Core.goes (Draws g.W.Words.gives g.W.Words.faults)) g.L.Link.talk c.args.at.time c.event_of.result (at_rest c.loop-news.node c.loop-news.random)
+    (at_rest c.dispatch.new.node c.dispatch.new.random)
     (world_of (record c.loop-news.set { due = c.pop_front.new.self }) (dialling g.D.Dialer.calls g.D.Dialer.left g.D.Dialer.came g.D.Dialer.faults c.loop-news.dialer) (g.K.Sink.held c.loop-news.sink))
-    (world_of c.give.new.set (dialling g.D.Dialer.calls g.D.Dialer.left g.D.Dialer.came g.D.Dialer.faults c.give.new.dialer) (g.K.Sink.held c.give.new.sink))
-    c.in_ok-give.ensures.gives in
+    (world_of c.dispatch.new.set (dialling g.D.Dialer.calls g.D.Dialer.left g.D.Dialer.came g.D.Dialer.faults c.dispatch.new.dialer) (g.K.Sink.held c.dispatch.new.sink))
+    c.in_ok-dispatch.ensures.gives in
     let j = one_more c.loop-news.set.due.items c.pop_front.new.self.items c.in-Some.news c.in-Some.ensures.items in
     omega (arith, k, j)
 
@@ -19,35 +20,38 @@ pub loop-news-preserved : goal.loop-news-preserved
 loop-news-preserved g c = record {
   gives = λ more m v k. (let t = c.loop-news.invariant.gives (c.in-Some.news ∷ more) m v (
     c.pop_front.new.self.items,
-    at_rest c.give.new.node c.give.new.random,
-    world_of c.give.new.set (dialling g.D.Dialer.calls g.D.Dialer.left g.D.Dialer.came g.D.Dialer.faults c.give.new.dialer) (g.K.Sink.held c.give.new.sink),
+    at_rest c.dispatch.new.node c.dispatch.new.random,
+    world_of c.dispatch.new.set (dialling g.D.Dialer.calls g.D.Dialer.left g.D.Dialer.came g.D.Dialer.faults c.dispatch.new.dialer) (g.K.Sink.held c.dispatch.new.sink),
     c.in-Some.ensures.items,
-    rw c.event_of.ensures.is at c.in_ok-give.ensures.gives,
+    rw c.event_of.ensures.is at c.in_ok-dispatch.ensures.gives,
     k,
   ) in t);
   stops = λ more v k. (let t = c.loop-news.invariant.stops (c.in-Some.news ∷ more) v (
     c.pop_front.new.self.items,
     c.in-Some.ensures.items,
     inr (
-      at_rest c.give.new.node c.give.new.random,
-      world_of c.give.new.set (dialling g.D.Dialer.calls g.D.Dialer.left g.D.Dialer.came g.D.Dialer.faults c.give.new.dialer) (g.K.Sink.held c.give.new.sink),
-      rw c.event_of.ensures.is at c.in_ok-give.ensures.gives,
+      at_rest c.dispatch.new.node c.dispatch.new.random,
+      world_of c.dispatch.new.set (dialling g.D.Dialer.calls g.D.Dialer.left g.D.Dialer.came g.D.Dialer.faults c.dispatch.new.dialer) (g.K.Sink.held c.dispatch.new.sink),
+      rw c.event_of.ensures.is at c.in_ok-dispatch.ensures.gives,
       k,
     ),
   ) in t);
-  later = omega (arith, c.loop-news.invariant.later, c.give.ensures.later);
+  later = omega (arith, c.loop-news.invariant.later, c.dispatch.ensures.later);
 }
 
 pub returns-clause-gives : goal.returns-clause-gives
 returns-clause-gives g c =
-    let after = world_of (record c.loop-news.set { due = c.pop_front.new.self }) (dialling g.D.Dialer.calls g.D.Dialer.left g.D.Dialer.came g.D.Dialer.faults c.loop-news.dialer) (g.K.Sink.held c.loop-news.sink) in
+    let after = world_of (record c.loop-news.set { due = c.pop_front.new.self }) (dialling g.D.Dialer.calls g.D.Dialer.left g.D.Dialer.came g.D.Dialer.faults c.loop-news.dialer)
+    (g.K.Sink.held c.loop-news.sink) in
     c.loop-news.invariant.gives [] (at_rest c.loop-news.node c.loop-news.random) after (
       none_left c.loop-news.set.due.items (c.in_default.ensures.items ∙ c.in_default.ensures.rest),
       refl,
-      emptied (world_of c.loop-news.set (dialling g.D.Dialer.calls g.D.Dialer.left g.D.Dialer.came g.D.Dialer.faults c.loop-news.dialer) (g.K.Sink.held c.loop-news.sink)) c.pop_front.new.self.items c.in_default.ensures.items,
+      emptied (world_of c.loop-news.set (dialling g.D.Dialer.calls g.D.Dialer.left g.D.Dialer.came g.D.Dialer.faults c.loop-news.dialer)
+          (g.K.Sink.held c.loop-news.sink)) c.pop_front.new.self.items c.in_default.ensures.items,
     )
 
-pub returns-in_err-give-clause-stops : goal.returns-in_err-give-clause-stops
-returns-in_err-give-clause-stops g c =
-    at_err _ (c.loop-news.invariant.stops (c.in-Some.news ∷ []) (world_of c.give.new.set (dialling g.D.Dialer.calls g.D.Dialer.left g.D.Dialer.came g.D.Dialer.faults c.give.new.dialer) (g.K.Sink.held c.give.new.sink))
-    (c.pop_front.new.self.items, c.in-Some.ensures.items, inl (rw c.event_of.ensures.is at c.in_err-give.ensures.stops)))
+pub returns-in_err-dispatch-clause-stops : goal.returns-in_err-dispatch-clause-stops
+returns-in_err-dispatch-clause-stops g c =
+    at_err _ (c.loop-news.invariant.stops (c.in-Some.news ∷ []) (world_of c.dispatch.new.set
+    (dialling g.D.Dialer.calls g.D.Dialer.left g.D.Dialer.came g.D.Dialer.faults c.dispatch.new.dialer) (g.K.Sink.held c.dispatch.new.sink))
+    (c.pop_front.new.self.items, c.in-Some.ensures.items, inl (rw c.event_of.ensures.is at c.in_err-dispatch.ensures.stops)))

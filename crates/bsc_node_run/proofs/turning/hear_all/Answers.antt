@@ -26,7 +26,13 @@ returns-in_err-hear-clause-stops g c =
 
 pub returns-in_err-hear-2-clause-stops : goal.returns-in_err-hear-2-clause-stops
 returns-in_err-hear-2-clause-stops g c =
-    at_err _ (inr (at_rest c.hear.new.node c.hear.new.random, (world_of c.hear.new.set (dialling g.D.Dialer.calls g.D.Dialer.left g.D.Dialer.came g.D.Dialer.faults c.hear.new.dialer) (g.K.Sink.held c.hear.new.sink)), c.in_ok-hear.ensures.hears, inl c.in_err-hear-2.ensures.stops))
+    at_err _ (inr (
+      at_rest c.hear.new.node c.hear.new.random,
+      (world_of c.hear.new.set (dialling g.D.Dialer.calls g.D.Dialer.left g.D.Dialer.came g.D.Dialer.faults c.hear.new.dialer)
+          (g.K.Sink.held c.hear.new.sink)),
+      c.in_ok-hear.ensures.hears,
+      inl c.in_err-hear-2.ensures.stops,
+    ))
 
 pub returns-clause-stops : goal.returns-clause-stops
 returns-clause-stops g c = on_err c.hear_slots.result
@@ -34,6 +40,12 @@ returns-clause-stops g c = on_err c.hear_slots.result
       at_rest c.hear.new.node c.hear.new.random,
       (world_of c.hear.new.set (dialling g.D.Dialer.calls g.D.Dialer.left g.D.Dialer.came g.D.Dialer.faults c.hear.new.dialer) (g.K.Sink.held c.hear.new.sink)),
       c.in_ok-hear.ensures.hears,
-      inr (at_rest c.hear-2.new.node c.hear-2.new.random, (world_of c.hear-2.new.set (dialling g.D.Dialer.calls g.D.Dialer.left g.D.Dialer.came g.D.Dialer.faults c.hear-2.new.dialer) (g.K.Sink.held c.hear-2.new.sink)), c.in_ok-hear-2.ensures.hears, k),
+      inr (
+        at_rest c.hear-2.new.node c.hear-2.new.random,
+        (world_of c.hear-2.new.set (dialling g.D.Dialer.calls g.D.Dialer.left g.D.Dialer.came g.D.Dialer.faults c.hear-2.new.dialer)
+            (g.K.Sink.held c.hear-2.new.sink)),
+        c.in_ok-hear-2.ensures.hears,
+        k,
+      ),
     ))
     c.hear_slots.ensures.stops

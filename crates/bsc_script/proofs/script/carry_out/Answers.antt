@@ -10,4 +10,5 @@ pub run_line-requires : goal.run_line-requires
 run_line-requires c = record { some = some_made c.args.hub.now c.in-Some.made c.in-Some.is c.requires.some }
 
 pub returns-in-Some : goal.returns-in-Some
-returns-in-Some c = λ s h. made_does c.run_line.result c.args.hub.now c.in-Some.made c.run_line.new.self s c.args.line c.args.text.now.items c.run_line.new.text.items c.in-Some.is h (λ u g. c.run_line.ensures u g)
+returns-in-Some c = λ s h. made_does c.run_line.result c.args.hub.now c.in-Some.made c.run_line.new.self s c.args.line c.args.text.now.items c.run_line.new.text.items c.in-Some.is h
+    (λ u g. c.run_line.ensures u g)

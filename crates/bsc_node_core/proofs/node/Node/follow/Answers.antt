@@ -49,7 +49,8 @@ returns-in-NoRandom-clause-goes c = on_ok_weaker c.keep_vmac.result
 
 pub returns-in-Opened-clause-goes : goal.returns-in-Opened-clause-goes
 returns-in-Opened-clause-goes c = on_ok_weaker c.open.result
-    (λ g b L r may h. let k = subst (λ (ev : NodeEvent). MayFollow ev L) c.in-Opened.is may in by-state b _ _ c.args.self.now.resolve L c.args.event.now _ c.in-Opened.is h.resolution (g (asked_by L b) L r k.0 k.1 h.state))
+    (λ g b L r may h. let k = subst (λ (ev : NodeEvent). MayFollow ev L) c.in-Opened.is may in
+    by-state b _ _ c.args.self.now.resolve L c.args.event.now _ c.in-Opened.is h.resolution (g (asked_by L b) L r k.0 k.1 h.state))
     c.open.ensures
 
 pub returns-in-DialFailed-clause-goes : goal.returns-in-DialFailed-clause-goes
@@ -64,7 +65,8 @@ returns-in-Came-clause-goes c = on_ok_weaker c.hear.result
 
 pub returns-in-CameText-clause-goes : goal.returns-in-CameText-clause-goes
 returns-in-CameText-clause-goes c = on_ok_weaker c.close_link.result
-    (λ g b L r may h. let k = subst (λ (ev : NodeEvent). MayFollow ev L) c.in-CameText.is may in by-state b _ _ c.args.self.now.resolve L c.args.event.now _ c.in-CameText.is h.resolution (g (asked_by L b) L r k (is_busy (asked_by L b) _ _ L c.in-CameText.name r.2 h.state)))
+    (λ g b L r may h. let k = subst (λ (ev : NodeEvent). MayFollow ev L) c.in-CameText.is may in
+    by-state b _ _ c.args.self.now.resolve L c.args.event.now _ c.in-CameText.is h.resolution (g (asked_by L b) L r k (is_busy (asked_by L b) _ _ L c.in-CameText.name r.2 h.state)))
     c.close_link.ensures
 
 pub returns-in-Tick-clause-goes : goal.returns-in-Tick-clause-goes

@@ -12,5 +12,6 @@ returns-then-for_all c = λ msg i d f b L h. no-nak b c.args.out.now c.args.self
 pub returns : goal.returns
 returns c = on_ok_weaker c.put.result
     (λ g msg i d f b L h.
-    same-lines b _ _ L _ _ (nak-lines L c.args.name msg c.args.dest c.args.id _ i d (f ∙ c.if-for_all.false) (c.in_ok-octets.ensures ∙ ap (λ (x : Body). message_octets c.args.id c.args.dest x) c.nak-body.ensures)) (g b L h))
+    same-lines b _ _ L _ _ (nak-lines L c.args.name msg c.args.dest c.args.id _ i d (f ∙ c.if-for_all.false)
+    (c.in_ok-octets.ensures ∙ ap (λ (x : Body). message_octets c.args.id c.args.dest x) c.nak-body.ensures)) (g b L h))
     c.put.ensures.goes

@@ -20,7 +20,8 @@ returns-in-Ok c = on_ok_weaker c.take.result
     let a = c.in-Ok.ensures.claimed (slot_calls L) h.direct in
     let within = ltb-true c.in-Ok.k SLOTS (slot-within (λ (j : ℕ). not (is_claimed (slot_calls L) j)) c.in-Ok.k a.0) in
     arrival-stands b _ _ L c.in-Ok.k a.0
-    (g b (L ++ slot (Claim c.in-Ok.k None) ∷ []) (ap (λ (l : NodeLimits). l.times) m) n within (claim-stands b c.args.out.now c.args.self.now L c.in-Ok.k None _ _ a.1 c.claim-in-Ok.ensures.sets c.claim-in-Ok.ensures.touches h)))
+    (g b (L ++ slot (Claim c.in-Ok.k None) ∷ []) (ap (λ (l : NodeLimits). l.times) m) n within
+    (claim-stands b c.args.out.now c.args.self.now L c.in-Ok.k None _ _ a.1 c.claim-in-Ok.ensures.sets c.claim-in-Ok.ensures.touches h)))
     c.take.ensures
 
 pub returns-in-Err : goal.returns-in-Err

@@ -16,6 +16,7 @@ returns c = on_ok_weaker c.end.result
     (λ g b L r name h.
     let close = does (Close c.args.name c.args.closing) in
     let M = L ++ close L in
-    let closed = settles-gone b _ _ M c.args.name r.2 name (there-over c.args.name L (did (Close c.args.name c.args.closing)) refl (same_link-self c.args.name)) (c.in_ok-close.ensures.goes (busy_with c.args.name b) L h) in
+    let closed = settles-gone b _ _ M c.args.name r.2 name (there-over c.args.name L (did (Close c.args.name c.args.closing)) refl (same_link-self c.args.name))
+    (c.in_ok-close.ensures.goes (busy_with c.args.name b) L h) in
     two-in-order (Stands b _ _) L close (ends b.made c.args.name) (g b M r closed))
     c.end.ensures

@@ -14,4 +14,5 @@ returns-then-is_there c = on_ok_weaker c.carry_out.result
     c.carry_out.ensures.goes
 
 pub returns-else-is_there : goal.returns-else-is_there
-returns-else-is_there c = λ b L w none n h. when-not (Stands b c.args.out.now c.args.self.now) L (is_there c.args.name) _ ((h.links c.args.name n).there ∙ sym c.is_there.ensures ∙ c.if-is_there.false) h
+returns-else-is_there c = λ b L w none n h. when-not (Stands b c.args.out.now c.args.self.now) L (is_there c.args.name) _
+    ((h.links c.args.name n).there ∙ sym c.is_there.ensures ∙ c.if-is_there.false) h

@@ -6,4 +6,5 @@ use Rattle.bsc_node_core.proofs.state.State.finish_taken.Goals as goal
 
 pub returns : goal.returns
 returns c = λ b out L is n h.
-    c.step_taken.ensures b out L c.args.machine (Finish c.args.now c.args.self.now.next) None (ap taken_in is) n c.finish-step.ensures.step (may-finish-taken c.args.machine.stage c.args.now c.args.self.now.next c.requires) refl h
+    c.step_taken.ensures b out L c.args.machine (Finish c.args.now c.args.self.now.next) None (ap taken_in is) n c.finish-step.ensures.step
+    (may-finish-taken c.args.machine.stage c.args.now c.args.self.now.next c.requires) refl h

@@ -16,8 +16,10 @@ pub returns-clause-goes : goal.returns-clause-goes
 returns-clause-goes c = on_ok_weaker c.carry_out.result
     (λ g b L none n is h.
     let name = Direct c.args.k in
-    let told = taken-told b c.args.out.now c.args.self.now L name Joined c.args.machine _ _ _ _ (c.as_dialled.ensures None (standing (accepting_events L name)) Joined refl) c.go_on_taken.ensures.sets c.go_on_taken.ensures.touches (ap taken_in is) n
+    let told = taken-told b c.args.out.now c.args.self.now L name Joined c.args.machine _ _ _ _
+    (c.as_dialled.ensures None (standing (accepting_events L name)) Joined refl) c.go_on_taken.ensures.sets c.go_on_taken.ensures.touches (ap taken_in is) n
     c.joined-step.ensures.step (ap (λ x. may_tell_taken x Joined) c.requires.asked) h in
-    carried b c.args.out.now _ _ _ (L ++ joins name L) name _ none n (ap is_calm (sym told.newest) ∙ calm-joins b.made name L (asked-taken b c.args.out.now c.args.self.now L name c.args.machine n is h)) told
+    carried b c.args.out.now _ _ _ (L ++ joins name L) name _ none n (ap is_calm (sym told.newest)
+    ∙ calm-joins b.made name L (asked-taken b c.args.out.now c.args.self.now L name c.args.machine n is h)) told
     (λ base st. g None None base (L ++ joins name L) st))
     c.carry_out.ensures.goes

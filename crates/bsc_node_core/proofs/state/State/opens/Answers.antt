@@ -19,4 +19,5 @@ returns-then-is_some c = λ b out L w none n t h.
 pub returns-else-is_some : goal.returns-else-is_some
 returns-else-is_some c = λ b out L w none n t h.
     let is = sym (ap (λ (k : Kept). k.machine) c.get.ensures) ∙ c.in-Dialled.is in
-    told-lines b out _ L c.args.name _ _ _ (opens-dialled b out c.args.self.now L c.args.name c.args.now n w h) (c.open_dialled.ensures b out L is n (is_busy b out c.args.self.now L c.args.name none h))
+    told-lines b out _ L c.args.name _ _ _ (opens-dialled b out c.args.self.now L c.args.name c.args.now n w h)
+    (c.open_dialled.ensures b out L is n (is_busy b out c.args.self.now L c.args.name none h))

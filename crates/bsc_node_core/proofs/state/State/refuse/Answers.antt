@@ -17,8 +17,10 @@ pub returns : goal.returns
 returns c = on_ok_weaker c.carry_out.result
     (λ g b L none n is h.
     let name = Direct c.args.k in
-    let told = taken-told b c.args.out.now c.args.self.now L name (Refused (Duplicate None)) c.args.machine _ _ _ _ (c.as_dialled.ensures None (standing (accepting_events L name)) (Refused (Duplicate None)) refl) c.go_on_taken.ensures.sets c.go_on_taken.ensures.touches (ap taken_in is) n
+    let told = taken-told b c.args.out.now c.args.self.now L name (Refused (Duplicate None)) c.args.machine _ _ _ _
+    (c.as_dialled.ensures None (standing (accepting_events L name)) (Refused (Duplicate None)) refl) c.go_on_taken.ensures.sets c.go_on_taken.ensures.touches (ap taken_in is) n
     c.refused-step.ensures.step (ap (λ x. may_tell_taken x (Refused (Duplicate None))) c.requires.asked) h in
-    carried b c.args.out.now _ _ _ (L ++ refuses name L) name _ none n (ap is_calm (sym told.newest) ∙ calm-refuses b.made name L (asked-taken b c.args.out.now c.args.self.now L name c.args.machine n is h)) told
+    carried b c.args.out.now _ _ _ (L ++ refuses name L) name _ none n (ap is_calm (sym told.newest)
+    ∙ calm-refuses b.made name L (asked-taken b c.args.out.now c.args.self.now L name c.args.machine n is h)) told
     (λ base st. g None None base (L ++ refuses name L) st))
     c.carry_out.ensures.goes

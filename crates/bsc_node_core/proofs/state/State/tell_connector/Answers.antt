@@ -18,7 +18,8 @@ returns c = on_ok_weaker c.drop_failover.result
     let step = step-kept a (dials_primary a) M (silent-primary a) ∙ t.1 in
     let later = step-kept a (dials_failover a) N (silent-failover a) ∙ step in
     let latest = step-kept a tells_use O silent-use ∙ later in
-    let before = use_before-kept (dials_failover a) N (silent-failover a) ∙ use_before-kept (dials_primary a) M (silent-primary a) ∙ use_before-told L c.args.event ∙ sym (c.hub_use-before.ensures (waits a) (hub_events L) h.connector) in
+    let before = use_before-kept (dials_failover a) N (silent-failover a) ∙ use_before-kept (dials_primary a) M (silent-primary a) ∙ use_before-told L c.args.event
+    ∙ sym (c.hub_use-before.ensures (waits a) (hub_events L) h.connector) in
     let primary = c.in_ok-try_primary.ensures b M r.0 r.1 t.1 t.0 in
     let failover = c.in_ok-try_failover.ensures b N r.0 r.1 step primary in
     let used = c.in_ok-tell_use.ensures b O before failover in

@@ -8,7 +8,8 @@ use Rattle.bsc_node_core.proofs.state.State.tell_down.Goals as goal
 
 pub returns-in-Some : goal.returns-in-Some
 returns-in-Some c = on_ok_weaker c.tell.result
-    (λ t b L h. told-stands b c.args.out.now _ c.args.self.now L _ (DirectDown c.in-Some.who.vmac) t (down-told c.args.k L c.in-Some.who (sym (c.peer.ensures (slot_calls L) h.direct) ∙ c.in-Some.is)) h)
+    (λ t b L h. told-stands b c.args.out.now _ c.args.self.now L _ (DirectDown c.in-Some.who.vmac) t
+    (down-told c.args.k L c.in-Some.who (sym (c.peer.ensures (slot_calls L) h.direct) ∙ c.in-Some.is)) h)
     c.tell.ensures
 
 pub returns-in-None : goal.returns-in-None

@@ -5,4 +5,5 @@ use Rattle.bsc_node_core.proofs.state.State.told.Goals as goal
 
 pub returns : goal.returns
 returns c = λ b out L n h.
-    told-at b out c.args.self.now L c.args.now c.args.event _ _ _ _ (h.now ∙ n) c.renewals_after-self.ensures c.dropped_after-self.ensures (c.event.ensures.step (waits b.made) (hub_events L) h.connector) h
+    told-at b out c.args.self.now L c.args.now c.args.event _ _ _ _ (h.now ∙ n) c.renewals_after-self.ensures c.dropped_after-self.ensures
+    (c.event.ensures.step (waits b.made) (hub_events L) h.connector) h

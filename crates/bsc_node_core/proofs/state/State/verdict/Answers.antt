@@ -13,5 +13,6 @@ returns c = IfOk-weaker c.judge.result _ _
     let s = c.args.self.now in
     let fit = ap (λ (k : Kept). is_fit k.machine) (sym c.get.ensures) ∙ c.get.result.fit in
     let p = place-is b out s L c.args.name none n o fit h in
-    sym (e ∙ ap (λ (x : Place). outcome_of c.args.octets.now x s.own.max_bvlc) (c.place_of-place.ensures ∙ ap (place_kept s.own.vmac c.args.name) c.get.ensures) ∙ verdict-is b out s L c.args.name c.args.octets.now p h))
+    sym (e ∙ ap (λ (x : Place). outcome_of c.args.octets.now x s.own.max_bvlc) (c.place_of-place.ensures ∙ ap (place_kept s.own.vmac c.args.name) c.get.ensures)
+    ∙ verdict-is b out s L c.args.name c.args.octets.now p h))
     c.judge.ensures.outcome

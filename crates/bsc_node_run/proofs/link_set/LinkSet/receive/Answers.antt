@@ -18,4 +18,5 @@ returns-then-k-lt-SLOTS-clause-new g c d h = record {
 
 pub returns-else-k-lt-SLOTS-clause-heard : goal.returns-else-k-lt-SLOTS-clause-heard
 returns-else-k-lt-SLOTS-clause-heard g c = subst (λ o. IsHeard g.L.Link.talk o o None)
-    (none_past c.args.name c.in-Direct.k c.args.self.now.primary c.args.self.now.failover c.args.self.now.slots.items c.in-Direct.is (sym c.args.self.now.slots.ok.0 ∙ c.args.self.now.all) (omega (arith, c.if-k-lt-SLOTS.false))) tt
+    (none_past c.args.name c.in-Direct.k c.args.self.now.primary c.args.self.now.failover c.args.self.now.slots.items c.in-Direct.is (sym c.args.self.now.slots.ok.0 ∙ c.args.self.now.all)
+    (omega (arith, c.if-k-lt-SLOTS.false))) tt

@@ -17,4 +17,5 @@ returns-then-k-lt-SLOTS-clause-new g c d h = record {
 
 pub returns-else-k-lt-SLOTS-clause-old : goal.returns-else-k-lt-SLOTS-clause-old
 returns-else-k-lt-SLOTS-clause-old g c =
-    none_past c.args.name c.in-Direct.k c.args.self.now.primary c.args.self.now.failover c.args.self.now.slots.items c.in-Direct.is (sym c.args.self.now.slots.ok.0 ∙ c.args.self.now.all) (omega (arith, c.if-k-lt-SLOTS.false))
+    none_past c.args.name c.in-Direct.k c.args.self.now.primary c.args.self.now.failover c.args.self.now.slots.items c.in-Direct.is (sym c.args.self.now.slots.ok.0 ∙ c.args.self.now.all)
+    (omega (arith, c.if-k-lt-SLOTS.false))

@@ -21,4 +21,5 @@ pub returns-in-Hold : goal.returns-in-Hold
 returns-in-Hold c = λ s h. by_line c.hold_name.result c.hold_name.new.self c.args.text.now.items c.args.text.now.items s c.args.line _ c.in-Hold.is (c.hold_name.ensures s c.args.text.now.items h)
 
 pub returns-in-Free : goal.returns-in-Free
-returns-in-Free c = λ s h. by_line c.hold_name-in-Free.result c.hold_name-in-Free.new.self c.args.text.now.items c.args.text.now.items s c.args.line _ c.in-Free.is (c.hold_name-in-Free.ensures s c.args.text.now.items h)
+returns-in-Free c = λ s h. by_line c.hold_name-in-Free.result c.hold_name-in-Free.new.self c.args.text.now.items c.args.text.now.items s c.args.line _ c.in-Free.is
+    (c.hold_name-in-Free.ensures s c.args.text.now.items h)

@@ -18,7 +18,8 @@ returns-in-Put c = λ s k cs h own. (
     let settled = settled_at c.args.self.now c.args.at cs s k h (subst (λ st. is_closing st ≡ false → IsSettledBut cs s.about s.history k) is own refl) in
     let name = c.name_at.ensures s.peers k (indexed c.args.self.now s h.stands) h.here in
     subst (λ st. OnOk c.put_out.result (CarriesOut c.args.self.now c.args.text.now.items c.put_out.new.text.items cs (does s k st))) (sym is)
-    (on_ok c.put_out.result (λ put. said_carried c.args.self.now c.args.text.now.items c.put_out.new.text.items c.put_out.new.text.items cs c.name_at.result.now k (out_words c.in-Put.octets.items) (quietly s)
+    (on_ok c.put_out.result (λ put. said_carried c.args.self.now c.args.text.now.items c.put_out.new.text.items c.put_out.new.text.items cs c.name_at.result.now k
+    (out_words c.in-Put.octets.items) (quietly s)
     (put ∙ ap (λ m. c.args.text.now.items ++ line_text (says c.name_at.result.now (out_words m))) c.as_slice.ensures.value) name
     (quiet_carried c.args.self.now c.put_out.new.text.items cs s h.stands settled))
     c.put_out.ensures))
@@ -29,7 +30,8 @@ returns-in_ok-put_out-in-PutClose c = λ s k cs h own. (
     let name = c.name_at-in-PutClose.ensures s.peers k (indexed c.args.self.now s h.stands) h.here in
     let put = c.in_ok-put_out-in-PutClose.ensures in
     subst (λ st. OnOk c.close.result (CarriesOut c.close.new.self c.args.text.now.items c.close.new.text.items cs (does s k st))) (sym is)
-    (on_ok c.close.result (said_carried c.close.new.self c.args.text.now.items _ c.close.new.text.items cs c.name_at-in-PutClose.result.now k (out_words c.in-PutClose.octets.items) (closes s k c.in-PutClose.closing)
+    (on_ok c.close.result (said_carried c.close.new.self c.args.text.now.items _ c.close.new.text.items cs c.name_at-in-PutClose.result.now k (out_words c.in-PutClose.octets.items)
+    (closes s k c.in-PutClose.closing)
     (put ∙ ap (λ m. c.args.text.now.items ++ line_text (says c.name_at-in-PutClose.result.now (out_words m))) c.as_slice-in-PutClose.ensures.value) name)
     (c.close.ensures s k cs h)))
 

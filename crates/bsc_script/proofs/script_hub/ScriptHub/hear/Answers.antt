@@ -21,4 +21,5 @@ returns-in_err-at c = λ s h. (
 pub returns : goal.returns
 returns c = λ s h. (
     let k = c.in_ok-at.ensures.found s h.0 in
-    by_peer (Ok c.in_ok-receive.field-0) c.receive.new.self c.args.text.now.items c.receive.new.text.items (λ k. receives s k c.args.message.now) (peer_of s c.args.name.now) k.0 k.2 (c.in_ok-receive.ensures s k.0 h k.1))
+    by_peer (Ok c.in_ok-receive.field-0) c.receive.new.self c.args.text.now.items c.receive.new.text.items (λ k. receives s k c.args.message.now) (peer_of s c.args.name.now) k.0 k.2
+    (c.in_ok-receive.ensures s k.0 h k.1))

@@ -21,4 +21,5 @@ returns-in_err-at c = λ s h. (
 pub returns : goal.returns
 returns c = λ s h. (
     let k = c.in_ok-at.ensures.found s h.0 in
-    by_peer (Ok Nobody) c.close.new.self c.args.text.now.items c.close.new.text.items (gets_text s) (peer_of s c.args.name.now) k.0 k.2 (c.in_ok-close.ensures s k.0 [] (at_settled c.args.self.now c.in_ok-at.at [] s k.0 h.0 h.1 k.1)))
+    by_peer (Ok Nobody) c.close.new.self c.args.text.now.items c.close.new.text.items (gets_text s) (peer_of s c.args.name.now) k.0 k.2
+    (c.in_ok-close.ensures s k.0 [] (at_settled c.args.self.now c.in_ok-at.at [] s k.0 h.0 h.1 k.1)))

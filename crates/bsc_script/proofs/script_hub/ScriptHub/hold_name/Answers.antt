@@ -21,4 +21,5 @@ returns-in_err-at c = λ s b h. (
 pub returns : goal.returns
 returns c = λ s b h. (
     let k = c.in_ok-at.ensures.found s h.0 in
-    by_peer (Ok c.hold.result) c.hold.new.self b b (λ k. holds s k c.args.held) (peer_of s c.args.name.now) k.0 k.2 (rebased c.hold.new.self b (dues c.hold.result) (holds s k.0 c.args.held) (c.hold.ensures s k.0 h k.1)))
+    by_peer (Ok c.hold.result) c.hold.new.self b b (λ k. holds s k c.args.held) (peer_of s c.args.name.now) k.0 k.2
+    (rebased c.hold.new.self b (dues c.hold.result) (holds s k.0 c.args.held) (c.hold.ensures s k.0 h k.1)))

@@ -34,7 +34,10 @@ act-requires-clause-some c =
     let k = some_at t s c.args.at (c.pair_mut-peer.result.0.now, c.pair_mut-peer.result.1.now) h.0 c.pair_mut-peer.ensures.value in (
       _,
       _,
-      (awaits t _ s c.args.at c.args.message.now k.0 (c.pair_mut-peer.result.0.now, c.pair_mut-peer.result.1.now) c.in_ok-verdict.verdict c.message-step.new.self c.message-step.result c.phase.result t.about.hub.max_bvlc h k.1 c.pair_mut-peer.ensures.value
+      (awaits t _ s c.args.at c.args.message.now k.0 (
+        c.pair_mut-peer.result.0.now,
+        c.pair_mut-peer.result.1.now,
+      ) c.in_ok-verdict.verdict c.message-step.new.self c.message-step.result c.phase.result t.about.hub.max_bvlc h k.1 c.pair_mut-peer.ensures.value
           c.message-step.ensures.step c.message-step.ensures.left judged refl refl refl refl refl).0,
     )
 
@@ -45,10 +48,14 @@ returns c = λ s k h here. (
     let e = Came t.clock v in
     let place = HubPort c.phase.result in
     let judged = c.in_ok-verdict.ensures.found in
-    let w = awaits t _ s c.args.at c.args.message.now k (c.pair_mut-peer.result.0.now, c.pair_mut-peer.result.1.now) v c.message-step.new.self c.message-step.result c.phase.result t.about.hub.max_bvlc h here c.pair_mut-peer.ensures.value
+    let w = awaits t _ s c.args.at c.args.message.now k (
+      c.pair_mut-peer.result.0.now,
+      c.pair_mut-peer.result.1.now,
+    ) v c.message-step.new.self c.message-step.result c.phase.result t.about.hub.max_bvlc h here c.pair_mut-peer.ensures.value
     c.message-step.ensures.step c.message-step.ensures.left judged refl refl refl refl refl in
     let same_phase = judged_phase t s c.args.at k (c.pair_mut-peer.result.0.now, c.pair_mut-peer.result.1.now) c.peer_at.result.now c.phase.result h here c.pair_mut-peer.ensures.value
-    (c.peer_at.ensures (kept (c.pair_mut-peer.result.0.now, c.pair_mut-peer.result.1.now)) (get-map kept t.peers.entries c.args.at (c.pair_mut-peer.result.0.now, c.pair_mut-peer.result.1.now) c.pair_mut-peer.ensures.value)) c.phase.ensures.told in
+    (c.peer_at.ensures (kept (c.pair_mut-peer.result.0.now, c.pair_mut-peer.result.1.now))
+    (get-map kept t.peers.entries c.args.at (c.pair_mut-peer.result.0.now, c.pair_mut-peer.result.1.now) c.pair_mut-peer.ensures.value)) c.phase.ensures.told in
     let verdict : v ≡ verdict_on s k c.args.message.now =
     c.in_ok-verdict.ensures.outcome
     ∙ ap (λ p. outcome_of c.args.message.now (HubPort p) t.about.hub.max_bvlc) same_phase
@@ -60,5 +67,6 @@ returns c = λ s k h here. (
     (and_then (record { state = with_peer (told (Came n v) k) s; said = silence k.name v }) (λ r. acts r (told (Came n v) k) c.args.message.now (step_of s k (Came n v)))))) h.0.clock
     (subst (λ st. IfOk c.act.result (λ due. CarriesOut c.act.new.self c.args.text.now.items c.act.new.text.items (dues due)
     (and_then (record { state = with_peer (told e k) s; said = silence k.name v }) (λ r. acts r (told e k) c.args.message.now st)))) w.1
-    (if_ok c.act.result (λ due done. lines_carried c.act.new.self c.args.text.now.items _ c.act.new.text.items (dues due) (silence k.name v) (acts (with_peer (told e k) s) (told e k) c.args.message.now c.message-step.result) put done)
+    (if_ok c.act.result (λ due done. lines_carried c.act.new.self c.args.text.now.items _ c.act.new.text.items (dues due) (silence k.name v)
+    (acts (with_peer (told e k) s) (told e k) c.args.message.now c.message-step.result) put done)
     (c.act.ensures (with_peer (told e k) s) (told e k) w.0)))))

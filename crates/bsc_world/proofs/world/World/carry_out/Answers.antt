@@ -24,13 +24,17 @@ returns-in_ok-message-in-Send c =
     let same : c.in_ok-message-in-Send.message ≡ c.in-Send.octets.items = c.in_ok-message-in-Send.ensures ∙ c.as_slice.ensures.value in
     let ready : HasSide t l (λ side. IsReady side) = subst (λ o. HasSide t l (λ side. LeavesPort o side)) is c.requires.left in
     subst (λ o. OnOk c.put_down.result (BecomesBusy (Some l) None (unless_over l (puts_out l o)) t u)) (sym is)
-    (both_ok c.put_down.result (λ sides goes. put_step_goes t u l (puts_now l Down (Message c.in-Send.octets.items)) (subst (λ m. Keeps (unless_over l (puts_now l Down (Message m))) t u) same goes) (kept_side (λ side. IsReady side) t u l ready sides))
+    (both_ok c.put_down.result (λ sides goes. put_step_goes t u l (puts_now l Down (Message c.in-Send.octets.items))
+    (subst (λ m. Keeps (unless_over l (puts_now l Down (Message m))) t u) same goes) (kept_side (λ side. IsReady side) t u l ready sides))
     c.put_down.ensures.sides c.put_down.ensures.goes)
 
 pub close-requires : goal.close-requires
 close-requires c =
     let l = c.args.link in
-    record { some = stands_goes (Some l) (Some l) (unless_over l (puts_now l Down (Message c.in_ok-message-in-SendClose.message))) c.args.self.now c.put_down-in-SendClose.new.self (c.in_ok-put_down-in-SendClose.ensures.goes (Some l)) c.requires.some }
+    record {
+      some = stands_goes (Some l) (Some l) (unless_over l (puts_now l Down (Message c.in_ok-message-in-SendClose.message))) c.args.self.now c.put_down-in-SendClose.new.self
+          (c.in_ok-put_down-in-SendClose.ensures.goes (Some l)) c.requires.some;
+    }
 
 pub returns-in_ok-put_down-in-SendClose : goal.returns-in_ok-put_down-in-SendClose
 returns-in_ok-put_down-in-SendClose c =
@@ -53,7 +57,8 @@ pub returns-in-Nothing : goal.returns-in-Nothing
 returns-in-Nothing c =
     let t = c.args.self.now in
     let l = c.args.link in
-    subst (λ o. BecomesBusy (Some l) None (unless_over l (puts_out l o)) t t) (sym c.in-Nothing.is) (idle_goes t l (subst (λ o. HasSide t l (λ side. LeavesPort o side)) c.in-Nothing.is c.requires.left))
+    subst (λ o. BecomesBusy (Some l) None (unless_over l (puts_out l o)) t t) (sym c.in-Nothing.is)
+    (idle_goes t l (subst (λ o. HasSide t l (λ side. LeavesPort o side)) c.in-Nothing.is c.requires.left))
 
 pub close-requires-in-Close : goal.close-requires-in-Close
 close-requires-in-Close c = record { some = c.requires.some }

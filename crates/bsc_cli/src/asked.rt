@@ -1,0 +1,49 @@
+//! What the words of the program ask for.
+
+/// What the words of the program ask for.
+#[derive(Clone, Copy, Debug, PartialEq, Eq)]
+pub enum Asked<'a> {
+    /// `replay`: plays a script.
+    Replay,
+    /// `simulate`: plays the script of a network.
+    Simulate,
+    /// `check`: answers lines with the verdicts on messages.
+    Check,
+    /// `audit`: says whether journals tell one legal history of one hub.
+    Audit,
+    /// `hub PATH`, with `--sessions N`, `--journal PREFIX` and `--stop-file FILE` where they are there: serves a hub.
+    Hub {
+        /// Where the settings are.
+        path: &'a str,
+        /// How many links are served: 1 to 1,000,000; None for ever.
+        sessions: Option<u64>,
+        /// Under what prefix journals are kept, if they are.
+        journal: Option<&'a str>,
+        /// The path at which a file asks for the stop, if one may.
+        stop_file: Option<&'a str>,
+    },
+    /// `node PATH SCRIPT`: runs a node.
+    Node {
+        /// Where the settings are.
+        path: &'a str,
+        /// Where the script is.
+        script: &'a str,
+    },
+    /// `load N`: runs a workload.
+    Load {
+        /// How many workers it has: 1 to `WORKERS`.
+        workers: u32,
+    },
+    /// `hub PATH --test`: tries the settings of a hub.
+    TestHub {
+        /// Where the settings are.
+        path: &'a str,
+    },
+    /// `node PATH SCRIPT --test`: tries the settings of a node, and its script.
+    TestNode {
+        /// Where the settings are.
+        path: &'a str,
+        /// Where the script is.
+        script: &'a str,
+    },
+}

@@ -1,5 +1,0 @@
-use Rattle.bsc_words.proofs.Help.{long_help, short_help}
-use Rattle.bsc_words.proofs.laws.calls_for_help_are_refused.Goals as goal
-
-pub returns : goal.returns
-returns c = record { long = long_help; short = short_help }

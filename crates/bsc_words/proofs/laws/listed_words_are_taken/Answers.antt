@@ -1,5 +1,0 @@
-use Rattle.bsc_words.proofs.Taken.{listed_taken}
-use Rattle.bsc_words.proofs.laws.listed_words_are_taken.Goals as goal
-
-pub returns : goal.returns
-returns c = listed_taken

@@ -1,5 +1,0 @@
-use Rattle.bsc_words.proofs.Taken.{plain_listed}
-use Rattle.bsc_words.proofs.laws.plain_words_are_listed.Goals as goal
-
-pub returns : goal.returns
-returns c = plain_listed
