@@ -49,7 +49,7 @@ A = Identity(bytes.fromhex("02000000000A"), b"\xAA" * 16)
 B = Identity(bytes.fromhex("02000000000B"), b"\xBB" * 16)
 C = Identity(bytes.fromhex("0200000000CD"), bytes(range(16)))
 
-LINE = re.compile(r"(\d{4}-\d\d-\d\dT\d\d:\d\d:\d\d\.\d{3}Z) hub (joined|takeover|refused|denied|ended|unserved) link (\d+) "
+LINE = re.compile(r"(\d{4}-\d\d-\d\dT\d\d:\d\d:\d\d\.\d{3}Z) hub (joined|takeover|nak|refused|denied|ended|unserved) link (\d+) "
                   r"connection (\d+|-) vmac ([0-9A-F]{12}|-) device ([0-9a-f]{8}(?:-[0-9a-f]{4}){3}-[0-9a-f]{12}|-) "
                   r"received (\d+) sent (\d+) cause (\S.*)")
 
@@ -158,6 +158,11 @@ async def nodes_come_and_go(hub):
     text = await Node(hub).opened()
     await text.send_text("no message")
     await text.closes(1003)
+    # A Connect-Request without its last octet.
+    short = await Node(hub).opened()
+    await short.send(bvlc.connect_request(1, B).octets()[:-1])
+    await short.hears(bvlc.RESULT)
+    await short.closes(1008, "connect wait")
     await (await Node(hub).opened()).closes(1008, "connect wait")
 
 
@@ -169,6 +174,7 @@ C_TOLD = "0200000000CD 00010203-0405-0607-0809-0a0b0c0d0e0f"
 ROWS = [
     f"joined 1 1 {A_TOLD} 1 0 -",
     f"ended 1 1 {A_TOLD} 3 3 replaced",
+    "nak 2 - 02000000000A bbbbbbbb-bbbb-bbbb-bbbb-bbbbbbbbbbbb 1 1 class 7 code 151 marker 0 NODE_DUPLICATE_VMAC",
     "refused 2 - 02000000000A bbbbbbbb-bbbb-bbbb-bbbb-bbbbbbbbbbbb 1 1 duplicate vmac",
     f"joined 3 2 {A_TOLD} 1 0 -",
     f"takeover 3 2 {A_TOLD} 1 0 took over connection 1",
@@ -179,7 +185,9 @@ ROWS = [
     f"joined 6 4 {C_TOLD} 1 0 -",
     f"ended 6 4 {C_TOLD} 1 1 link fault",
     "ended 7 - - - 0 0 text message",
-    "ended 8 - - - 0 0 connect wait",
+    "nak 8 - - - 1 1 class 7 code 147 marker 0 MESSAGE_INCOMPLETE of C7 or C10b",
+    "ended 8 - - - 1 1 connect wait",
+    "ended 9 - - - 0 0 connect wait",
 ]
 
 
@@ -206,6 +214,7 @@ def look_at_page():
     section = PAGE.read_text(encoding="utf-8").split("\n### The log\n")[1].split("\n## ")[0].split("\n### ")[0]
     for row in ROWS + DENIED:
         event, *_, cause = row.split(" ", 7)
+        cause = re.sub(r"^class \d+ code \d+ marker \d+ .*", "class C code C marker M", cause)
         for word in (event, re.sub(r" \d+$", " C", cause)):
             if f"`{word}`" not in section:
                 raise Failed(f"{PAGE} doesn't have `{word}`")
@@ -219,7 +228,7 @@ def main():
     with tempfile.TemporaryDirectory() as folder:
         work = Path(folder)
         for log, journal in (("1", None), ("1", "journal"), ("0", None)):
-            hub = Hub(work, 8, SETTINGS, log, journal)
+            hub = Hub(work, 9, SETTINGS, log, journal)
             asyncio.run(nodes_come_and_go(hub))
             told, rows = hub.end()
             same(by_link(rows), ROWS if log == "1" else [], "the lines")
@@ -231,7 +240,7 @@ def main():
             told, rows = hub.end()
             same(by_link(rows), DENIED if log == "1" else [], "the lines of a hub with a policy")
     look_at_page()
-    return f"{2 * len(ROWS) + len(DENIED)} lines of 18 links are as they are due"
+    return f"{2 * len(ROWS) + len(DENIED)} lines of 20 links are as they are due"
 
 
 try:

@@ -19,6 +19,8 @@ from message import Message, digits_of
 SLACK, EARLY = 1.0, 0.05  # seconds by which a time may be missed, late and early
 CALLER, CALLER_DEVICE = bytes.fromhex("02000000000D"), b"\xDD" * 16  # a peer that dials the node
 DUPLICATE = b"\x06\x01\x00\x00\x07\x00\x97"  # the payload of a NAK for a VMAC that another device has
+REFUSALS = 4  # times that a node is refused as a duplicate which dials a peer meanwhile
+DIALLING = 2.0  # seconds that a dial to a peer takes at most
 
 
 class Case(NamedTuple):
@@ -275,14 +277,18 @@ async def leave_hub_breaks(t):
 async def alone(t):
     """A new link of a node that has no direct connection, where it may keep its VMAC."""
     t.stand.sides["peer"].refuses = True
-    for link, _ in t.stand.of_peer:
-        await link.close()
+    await part_from_peer(t)
     return await fresh(t)
 
 
-async def renewed(t, link):
-    """Refuses a node as a duplicate; its next link, with another VMAC."""
-    old = t.node.vmac
+async def part_from_peer(t):
+    """Closes each direct connection of the node."""
+    for link, _ in t.stand.of_peer:
+        await link.close()
+
+
+async def refused(t, link):
+    """Refuses a node as a duplicate; its next link."""
     await link.send(spelled(NAK, Message(link.request or bytes(4)).id, payload=DUPLICATE))
     until = time.monotonic() + t.patience
     while not link.closed and time.monotonic() < until:
@@ -290,7 +296,19 @@ async def renewed(t, link):
     if not link.closed:
         t.differ("close", link.side, "the node didn't close the WebSocket behind the refusal", whose="profile")
         await link.close()
-    link = await t.dialled()
+    return await t.dialled()
+
+
+async def renewed(t, link):
+    """Refuses a node as a duplicate; its next link, with another VMAC. A node that was dialling the peer may have kept its VMAC, so it
+    is refused again, a few times."""
+    old = t.node.vmac
+    for _ in range(REFUSALS):
+        since = time.monotonic() - DIALLING
+        link = await refused(t, link)
+        if t.node.vmac != old or not any(it >= since for it in t.stand.sides["peer"].dials):
+            break
+        await part_from_peer(t)
     t.due(link, words="asks with another VMAC")
     if t.node.vmac == old:
         t.differ("renewal", link.side, f"the node asked with the VMAC {digits_of(old)} again")
