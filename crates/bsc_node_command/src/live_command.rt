@@ -18,7 +18,7 @@ use bsc_node_run::{NodeParts, Words};
 use bsc_outside::Sink;
 use std::alloc::Global;
 
-/// Runs the command `node PATH -`: loads the settings, and runs a node of them by the lines that come.
+/// Loads the settings, and runs a node of them by the lines that come. No command of the program calls it yet.
 pub fn run_live_file<
     K: Sink,
     F: Files,
