@@ -37,6 +37,12 @@ pub trait Link {
         ensures quiets { quiets self.old ≤ quiets self.new }
         ensures quiet { IsQuiet result → HasRisen (quiets self.old) (quiets self.new) };
 
+    /// Whether the link knows, without a call of the system, that a receive which doesn't wait would give nothing now. Where it
+    /// doesn't know, false.
+    fn is_idle(&self) -> bool {
+        false
+    }
+
     /// Puts a message.
     fn put(&mut self, alloc: Global, m: &[u8]) -> Result<(), LinkFault>
         ensures told { Grows (talk self.old) (talk self.new) (Said.Put m.now (fault_in result) ∷ []) }

@@ -29,6 +29,12 @@ pub trait Patience {
         ensures later { faults self.old ≤ faults self.new }
         ensures failed { IsErr result → HasRisen (faults self.old) (faults self.new) };
 
+    /// Whether it is known, without a call of the system, that a read which doesn't wait would give nothing now. Where it isn't
+    /// known, false.
+    fn is_idle(&self) -> bool {
+        false
+    }
+
     /// The link is this connection's from now on.
     fn set_connection(&mut self, conn: u64)
         ensures told { Stays (waits self.old) (waits self.new) }

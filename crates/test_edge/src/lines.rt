@@ -1,6 +1,7 @@
 //! The text of a line.
-use bsc_log::{Cause, JoinRefusal, Line, LogEvent, Nak, stamp_of};
+use bsc_log::{Cause, JoinRefusal, Limited, Line, LogEvent, Nak, Turning, stamp_of};
 use bsc_octets::{NoMemory, read_identity};
+use std::alloc::Global;
 use std::process::Abort;
 use std::test::*;
 use std::time::Duration;
@@ -33,63 +34,65 @@ const WHO: [u8; 26] = [
     0x67, 0x89, 0xAB, 0xCD, 0xEF, 6, 64, 5, 217,
 ];
 
-/// What a line tells, whether its link has joined, and what stands behind its link's number.
-const LINES: [(LogEvent, Option<u64>, bool, &str, &str); 11] = [
+/// What a line tells, the number of its connection, whether its link has asked to join, its word, and what stands behind that.
+type Row<'a> = (LogEvent, Option<u64>, bool, &'a str, &'a str);
+
+const LINES: [Row<'static>; 15] = [
     (
         LogEvent::Joined,
         Some(12),
         true,
         "joined",
-        "connection 12 vmac 0200ABCDEF09 device 01234567-89ab-cdef-0123-456789abcdef received 1 sent 20 cause -",
+        "link 3 connection 12 vmac 0200ABCDEF09 device 01234567-89ab-cdef-0123-456789abcdef received 1 sent 20 cause -",
     ),
     (
         LogEvent::TookOver(7),
         Some(12),
         true,
         "takeover",
-        "connection 12 vmac 0200ABCDEF09 device 01234567-89ab-cdef-0123-456789abcdef received 1 sent 20 cause took over connection 7",
+        "link 3 connection 12 vmac 0200ABCDEF09 device 01234567-89ab-cdef-0123-456789abcdef received 1 sent 20 cause took over connection 7",
     ),
     (
         LogEvent::Refused(JoinRefusal::DuplicateVmac),
         None,
         true,
         "refused",
-        "connection - vmac 0200ABCDEF09 device 01234567-89ab-cdef-0123-456789abcdef received 1 sent 20 cause duplicate vmac",
+        "link 3 connection - vmac 0200ABCDEF09 device 01234567-89ab-cdef-0123-456789abcdef received 1 sent 20 cause duplicate vmac",
     ),
     (
         LogEvent::Refused(JoinRefusal::TableFull),
         None,
         true,
         "refused",
-        "connection - vmac 0200ABCDEF09 device 01234567-89ab-cdef-0123-456789abcdef received 1 sent 20 cause table full",
+        "link 3 connection - vmac 0200ABCDEF09 device 01234567-89ab-cdef-0123-456789abcdef received 1 sent 20 cause table full",
     ),
     (
         LogEvent::Denied,
         None,
         true,
         "denied",
-        "connection - vmac 0200ABCDEF09 device 01234567-89ab-cdef-0123-456789abcdef received 1 sent 20 cause policy",
+        "link 3 connection - vmac 0200ABCDEF09 device 01234567-89ab-cdef-0123-456789abcdef received 1 sent 20 cause policy",
     ),
     (
         LogEvent::Ended(Cause::PeerLeft),
         Some(18_446_744_073_709_551_615),
         true,
         "ended",
-        "connection 18446744073709551615 vmac 0200ABCDEF09 device 01234567-89ab-cdef-0123-456789abcdef received 1 sent 20 cause peer left",
+        "link 3 connection 18446744073709551615 vmac 0200ABCDEF09 device 01234567-89ab-cdef-0123-456789abcdef received 1 sent 20 cause peer left",
     ),
     (
         LogEvent::Ended(Cause::ConnectWait),
         None,
         false,
         "ended",
-        "connection - vmac - device - received 1 sent 20 cause connect wait",
+        "link 3 connection - vmac - device - received 1 sent 20 cause connect wait",
     ),
     (
         LogEvent::NoSession,
         None,
         false,
         "unserved",
-        "connection - vmac - device - received 1 sent 20 cause no session",
+        "link 3 connection - vmac - device - received 1 sent 20 cause no session",
     ),
     (
         LogEvent::Nak(Nak {
@@ -100,7 +103,7 @@ const LINES: [(LogEvent, Option<u64>, bool, &str, &str); 11] = [
         None,
         false,
         "nak",
-        "connection - vmac - device - received 1 sent 20 cause class 7 code 146 marker 66 HEADER_NOT_UNDERSTOOD of C9",
+        "link 3 connection - vmac - device - received 1 sent 20 cause class 7 code 146 marker 66 HEADER_NOT_UNDERSTOOD of C9",
     ),
     (
         LogEvent::Nak(Nak {
@@ -111,26 +114,54 @@ const LINES: [(LogEvent, Option<u64>, bool, &str, &str); 11] = [
         None,
         true,
         "nak",
-        "connection - vmac 0200ABCDEF09 device 01234567-89ab-cdef-0123-456789abcdef received 1 sent 20 cause class 65535 code 65535 marker 0 other",
+        "link 3 connection - vmac 0200ABCDEF09 device 01234567-89ab-cdef-0123-456789abcdef received 1 sent 20 cause class 65535 code 65535 marker 0 other",
     ),
     (
-        LogEvent::NaksLeftOut(37),
+        LogEvent::LeftOut(Limited::Naks, 37),
         None,
         true,
         "nak",
-        "connection - vmac 0200ABCDEF09 device 01234567-89ab-cdef-0123-456789abcdef received 1 sent 20 cause left out 37",
+        "link 3 connection - vmac 0200ABCDEF09 device 01234567-89ab-cdef-0123-456789abcdef received 1 sent 20 cause left out 37",
+    ),
+    (
+        LogEvent::LeftOut(Limited::Denials, 1),
+        None,
+        false,
+        "denied",
+        "link 3 connection - vmac - device - received 1 sent 20 cause left out 1",
+    ),
+    (
+        LogEvent::Turned(Turning::NoProtocol),
+        None,
+        false,
+        "turned",
+        "link - connection - vmac - device - received 1 sent 20 cause no sub-protocol",
+    ),
+    (
+        LogEvent::Turned(Turning::NoDescriptor),
+        None,
+        false,
+        "turned",
+        "link - connection - vmac - device - received 1 sent 20 cause no descriptor",
+    ),
+    (
+        LogEvent::LeftOut(Limited::Turned(Turning::PushedOut), 247),
+        None,
+        false,
+        "turned",
+        "link - connection - vmac - device - received 1 sent 20 cause handshakes full, left out 247",
     ),
 ];
 
-#[test]
-fn lines_have_one_form(rt: HostRuntime) -> Result<(), NoMemory> {
-    for (event, conn, has_asked, word, rest) in LINES {
+/// The word of the first of these whose line has another form, if there is one.
+fn formed_otherwise<'a>(alloc: Global, rows: &[Row<'a>]) -> Result<Option<&'a str>, NoMemory> {
+    for row in rows.iter() {
         let line = Line {
             stamp: stamp_of(Duration::from_millis(1_795_928_601_123)),
-            event,
-            link: 3,
-            conn,
-            who: if has_asked {
+            event: row.0,
+            link: if row.3 == "turned" { None } else { Some(3) },
+            conn: row.1,
+            who: if row.2 {
                 Some(read_identity(&WHO))
             } else {
                 None
@@ -138,10 +169,21 @@ fn lines_have_one_form(rt: HostRuntime) -> Result<(), NoMemory> {
             received: 1,
             sent: 20,
         };
-        let wanted = format!(in rt.alloc(); "2026-11-29T05:03:21.123Z hub {word} link 3 {rest}")?;
-        let mut text = Vec::new(rt.alloc());
+        let (word, rest) = (row.3, row.4);
+        let wanted = format!(in alloc; "2026-11-29T05:03:21.123Z hub {word} {rest}")?;
+        let mut text = Vec::new(alloc);
         line.put(&mut text)?;
-        assert!(rt; text.as_slice() == wanted.as_bytes(), "{word}");
+        if text.as_slice() != wanted.as_bytes() {
+            return Ok(Some(word));
+        }
     }
-    Ok(())
+    Ok(None)
+}
+
+#[test]
+fn lines_have_one_form(rt: HostRuntime) -> Result<(), NoMemory> {
+    match formed_otherwise(rt.alloc(), &LINES)? {
+        Some(word) => panic!(rt; "{word}"),
+        None => Ok(()),
+    }
 }

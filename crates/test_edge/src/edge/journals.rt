@@ -22,31 +22,40 @@ fn in_memory(rt: HostRuntime) -> Result<(), Fail> {
     Ok(())
 }
 
-/// The journal of number 3 is the file of that number, made anew. It isn't written over, and without a prefix no file is
-/// made. They stand in a folder of this process.
-#[test]
-fn in_files(rt: HostRuntime) -> Result<(), Fail> {
-    let alloc = rt.alloc();
+/// A folder of this process, which is empty.
+fn folder_of(rt: HostRuntime, name: &str) -> Result<String, Fail> {
     let id = process::id(rt.process());
-    let folder = format!(in alloc; "/tmp/bsc_journals_{id}")?;
+    let folder = format!(in rt.alloc(); "/tmp/bsc_journals_{name}_{id}")?;
     if fs::exists(&rt, folder.as_str())? {
         fs::remove_dir_all(&rt, folder.as_str())?;
     }
     fs::create_dir(&rt, folder.as_str())?;
+    Ok(folder)
+}
+
+/// The journal of number 3 is the file of that number, made anew at its first line; that of number 0 is made at once. Neither is
+/// written over, and without a prefix no file is made. They stand in a folder of this process.
+#[test]
+fn in_files(rt: HostRuntime) -> Result<(), Fail> {
+    let alloc = rt.alloc();
+    let folder = folder_of(rt, "in_files")?;
     let prefix = format!(in alloc; "{folder}/hub")?;
+    let own = format!(in alloc; "{folder}/hub.0")?;
     let path = format!(in alloc; "{folder}/hub.3")?;
     let mut journals = DiskJournals::new(rt);
+    assert!(rt; journals.begin(alloc, Some(prefix.as_str()), 0).is_ok());
+    assert!(rt; fs::exists(&rt, own.as_str())?);
     let Ok(mut journal) = journals.begin(alloc, Some(prefix.as_str()), 3) else {
         panic!(rt; "it is begun");
     };
+    assert!(rt; !fs::exists(&rt, path.as_str())?);
     assert_eq!(rt; journal.write(b"one\n"), Ok(()));
     assert_eq!(rt; journal.write(b"two\n"), Ok(()));
-    assert!(rt;
-        matches!(
-            journals.begin(alloc, Some(prefix.as_str()), 3),
-            Err(LinkFault::Failed)
-        )
-    );
+    assert!(rt; !journal.has_failed());
+    for number in [0, 3] {
+        let answer = journals.begin(alloc, Some(prefix.as_str()), number);
+        assert!(rt; matches!(answer, Err(LinkFault::Failed)));
+    }
     let Ok(mut dropping) = journals.begin(alloc, None, 4) else {
         panic!(rt; "it is begun");
     };
@@ -54,8 +63,42 @@ fn in_files(rt: HostRuntime) -> Result<(), Fail> {
     assert!(rt; !fs::exists(&rt, ".4")?);
     let held = fs::read(&rt, path.as_str())?;
     assert!(rt; held.as_slice() == b"one\ntwo\n".as_slice());
+    fs::remove_file(&rt, own.as_str())?;
     fs::remove_file(&rt, path.as_str())?;
     // There is no other file in it.
     fs::remove_dir(&rt, folder.as_str())?;
+    Ok(())
+}
+
+/// Where its file can't be made, a journal of a session is begun and loses its lines, until the file can be. A file that came since
+/// it was begun isn't written over. The journal of number 0 isn't begun.
+#[test]
+fn without_a_file(rt: HostRuntime) -> Result<(), Fail> {
+    let alloc = rt.alloc();
+    let folder = folder_of(rt, "without_a_file")?;
+    let inner = format!(in alloc; "{folder}/inner")?;
+    let prefix = format!(in alloc; "{inner}/hub")?;
+    let path = format!(in alloc; "{inner}/hub.1")?;
+    let other = format!(in alloc; "{inner}/hub.2")?;
+    let mut journals = DiskJournals::new(rt);
+    let own = journals.begin(alloc, Some(prefix.as_str()), 0);
+    assert!(rt; matches!(own, Err(LinkFault::Failed)));
+    let (Ok(mut first), Ok(mut second)) = (
+        journals.begin(alloc, Some(prefix.as_str()), 1),
+        journals.begin(alloc, Some(prefix.as_str()), 2),
+    ) else {
+        panic!(rt; "they are begun");
+    };
+    assert_eq!(rt; first.write(b"one\n"), Err(Failed));
+    assert!(rt; first.has_failed());
+    fs::create_dir(&rt, inner.as_str())?;
+    assert_eq!(rt; first.write(b"two\n"), Ok(()));
+    fs::write(&rt, other.as_str(), "there\n")?;
+    assert_eq!(rt; second.write(b"one\n"), Err(Failed));
+    let held = fs::read(&rt, path.as_str())?;
+    assert!(rt; held.as_slice() == b"two\n".as_slice());
+    let there = fs::read(&rt, other.as_str())?;
+    assert!(rt; there.as_slice() == b"there\n".as_slice());
+    fs::remove_dir_all(&rt, folder.as_str())?;
     Ok(())
 }
