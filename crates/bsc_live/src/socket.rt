@@ -8,7 +8,7 @@ use crate::lingering::Lingering;
 use crate::moment::{Moment, wait_of};
 use crate::raw::RawSocket;
 use crate::waker::Waker;
-use crate::watch::{Seat, Watch};
+use crate::watch::{Seat, SeatView, Watch};
 use crate::wire::Wire;
 use mio::net::TcpStream;
 use mio::{Events, Interest, Poll, Token};
@@ -153,6 +153,14 @@ impl<R: Clock + Wait + Drop> LiveSocket<R> {
         };
         self.debts = Some(debts);
         Ok(())
+    }
+
+    /// What tells whether it may have something, where it is waited for with others.
+    pub(crate) fn seat_view(&self) -> Option<SeatView> {
+        match &self.seat {
+            Some(seat) => seat.view(),
+            None => None,
+        }
     }
 
     /// Its bell, to be shared.

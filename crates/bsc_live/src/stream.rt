@@ -6,7 +6,7 @@ use crate::held::Held;
 use crate::lingering::Lingering;
 use crate::socket::LiveSocket;
 use crate::waker::Waker;
-use crate::watch::Watch;
+use crate::watch::{SeatView, Watch};
 use crate::wire::Wire;
 use mio::net::TcpStream;
 use std::alloc::Global;
@@ -73,6 +73,11 @@ impl<R: Clock + Wait + Drop> LiveStream<R> {
         let mut stream = self;
         stream.held.wire.ring(debts)?;
         Ok(stream)
+    }
+
+    /// What tells whether it may have something, where it is waited for with others.
+    pub(crate) fn seat_view(&self) -> Option<SeatView> {
+        self.held.wire.seat_view()
     }
 
     /// The stream's bell, to be shared.

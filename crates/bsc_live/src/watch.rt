@@ -22,6 +22,9 @@ use std::time::Clock;
 /// So many events are looked at after one wait. What is left over is there at the next one.
 const BATCH: usize = 128;
 
+/// While somebody is hot, the system is asked for events at each eighth wait only.
+const WAITS_A_POLL: u32 = 8;
+
 /// A place at a watch.
 #[derive(Drop)]
 struct Place {
@@ -42,6 +45,9 @@ pub struct Watch {
 pub struct Seat {
     watch: Arc<Watch>,
     place: usize,
+    /// What makes it hot from another thread, where it has that. It lives as long as the seat: a waker's descriptor that is closed
+    /// right behind its wake would take the event with it.
+    waker: Option<SeatWaker>,
     ghost sits: { place < length (arc_value watch).places.items },
 }
 
@@ -106,7 +112,11 @@ impl Seat {
             return Err(io::Error::from(ErrorKind::OutOfMemory));
         };
         watch.set_hot(place, true);
-        Ok(Seat { watch, place })
+        Ok(Seat {
+            watch,
+            place,
+            waker: None,
+        })
     }
 
     /// A seat for whom this source belongs to. Fails where all places are taken.
@@ -119,10 +129,22 @@ impl Seat {
     }
 
     /// A seat without a source, and what makes it hot from another thread. Fails where all places are taken.
-    pub fn with_waker(watch: &Arc<Watch>) -> io::Result<(Seat, SeatWaker)> {
-        let seat = Seat::at(watch)?;
-        let waker = SeatWaker::at(&seat.watch.registry, seat.place)?;
+    pub fn with_waker(alloc: Global, watch: &Arc<Watch>) -> io::Result<(Seat, SeatWaker)> {
+        let mut seat = Seat::at(watch)?;
+        let waker = SeatWaker::at(alloc, &seat.watch.registry, seat.place)?;
+        seat.waker = Some(waker.again()?);
         Ok((seat, waker))
+    }
+
+    /// What tells whether who sits here may have something. It is good as long as the seat is.
+    pub(crate) fn view(&self) -> Option<SeatView> {
+        match Arc::try_clone(&self.watch) {
+            Ok(watch) => Some(SeatView {
+                watch,
+                place: self.place,
+            }),
+            Err(_) => None,
+        }
     }
 
     /// Leaves, and its watch is told no more of this source.
@@ -144,7 +166,25 @@ impl Seat {
 impl Drop for Seat {
     fn drop(self) {
         self.watch.free(self.place);
-        let Seat { watch: _, place: _ } = self;
+        let Seat {
+            watch: _,
+            place: _,
+            waker: _,
+        } = self;
+    }
+}
+
+/// Tells whether who has a seat may have something.
+#[derive(Drop)]
+pub(crate) struct SeatView {
+    watch: Arc<Watch>,
+    place: usize,
+}
+
+impl SeatView {
+    /// Whether who sits there may have something.
+    pub(crate) fn is_hot(&self) -> bool {
+        self.watch.is_hot(self.place)
     }
 }
 
@@ -156,6 +196,8 @@ pub struct Watcher<R> {
     events: Events,
     watch: Arc<Watch>,
     lingering: Option<Arc<Lingering>>,
+    /// How many waits there were, while somebody was hot, since the system was asked for events.
+    unasked: u32,
 }
 
 impl<R: Clock + Net + Drop> Watcher<R> {
@@ -187,6 +229,7 @@ impl<R: Clock + Net + Drop> Watcher<R> {
             events,
             watch,
             lingering: None,
+            unasked: 0,
         })
     }
 }
@@ -217,6 +260,20 @@ impl<R: Clock + Wait> Watcher<R> {
         }
     }
 
+    /// Whether this wait is over without a call of the system: somebody is hot, and it was called in one of the last seven waits.
+    fn may_go_on(&mut self, has_hot: bool) -> bool {
+        self.unasked = if has_hot {
+            self.unasked.saturating_add(1)
+        } else {
+            WAITS_A_POLL
+        };
+        if self.unasked < WAITS_A_POLL {
+            return true;
+        }
+        self.unasked = 0;
+        false
+    }
+
     /// Waits so many milliseconds, and makes those hot for whom something comes. Whether something came.
     fn wait_once(&mut self, wait_ms: u32) -> bool {
         let wait = wait_of(wait_ms as u64 * 1000);
@@ -244,7 +301,11 @@ impl<R: Clock + Wait> Waiter for Watcher<R> {
     ghost waits = { λ _. None };
 
     fn wait(&mut self, most_ms: u32) {
-        let mut left = if self.watch.has_hot() { 0 } else { most_ms };
+        let has_hot = self.watch.has_hot();
+        if self.may_go_on(has_hot) {
+            return;
+        }
+        let mut left = if has_hot { 0 } else { most_ms };
         for _ in 0..=most_ms {
             let part = if self.has_lingering() {
                 left.min(LOOK_MS)

@@ -38,6 +38,10 @@ impl<L: Link> Link for BoxedLink<L> {
         self.link.as_mut().receive(alloc, wait_ms)
     }
 
+    fn is_idle(&self) -> bool {
+        self.link.is_idle()
+    }
+
     fn put(&mut self, alloc: Global, m: &[u8]) -> Result<(), LinkFault> {
         self.link.as_mut().put(alloc, m)
     }

@@ -2,14 +2,15 @@
 ghost use Rattle.std.specs.Prelude.{◌≡◌, ◌≤◌, true, ◌&&◌, [], None, Some, IfOk};
 ghost use Rattle.std.specs.List.{list_all};
 ghost use Rattle.bsc_edge.specs.Told.{arrived_in, is_untold};
+ghost use Rattle.bsc_sockets.specs.Telling.{TellsRise, risen};
 
 use crate::boxed_link::BoxedLink;
 use crate::links::RealLink;
 use crate::waiting::Shared;
 use bsc_edge::{Acceptor, Arrived, Failed, Kind, Link, LinkFault, ToldLink};
-use bsc_gate::HandshakeAcceptor;
+use bsc_gate::{HandshakeAcceptor, Turned};
 use bsc_live::Wakers;
-use bsc_log::{LoggedAcceptor, Logging, logging_of};
+use bsc_log::{LoggedAcceptor, Logging, Turning, logging_of};
 use bsc_octets::Vmac;
 use bsc_past::Past;
 use std::alloc::Global;
@@ -159,6 +160,55 @@ fn tell_open<R: Eprint>(rt: &R, kind: Kind, port: u16, owner: Vmac) {
     );
 }
 
+/// How many streams were turned away between these counts of a gate, by why.
+fn risen(before: Turned, after: Turned) -> [(Turning, u64); 7]
+    ensures { result ≡ risen before after }
+{
+    [
+        (
+            Turning::NoProtocol,
+            after.no_protocol.saturating_sub(before.no_protocol),
+        ),
+        (Turning::Late, after.late.saturating_sub(before.late)),
+        (
+            Turning::LongHead,
+            after.long_head.saturating_sub(before.long_head),
+        ),
+        (
+            Turning::NoDescriptor,
+            after.no_descriptor.saturating_sub(before.no_descriptor),
+        ),
+        (
+            Turning::PushedOut,
+            after.pushed_out.saturating_sub(before.pushed_out),
+        ),
+        (
+            Turning::NoMemory,
+            after.no_memory.saturating_sub(before.no_memory),
+        ),
+        (Turning::Failed, after.failed.saturating_sub(before.failed)),
+    ]
+}
+
+/// What a gate answers next, in memory of its own. Its log tells which streams it turned away meanwhile.
+fn next_of<R: Clock + Net + Wait + RandomSource + Copy + Drop>(
+    gate: &mut LoggedAcceptor<HandshakeAcceptor<R>, R>,
+    alloc: Global,
+    wait_ms: u32,
+) -> Result<Arrived<RealLink<R>>, LinkFault>
+    ensures fresh { list_all (λ l. is_untold (⟦<RealLink<R> as Link>⟧.talk l) && is_untold (⟦<RealLink<R> as Link>⟧.notices l))
+        (arrived_in result) ≡ true }
+    ensures told { TellsRise gate.old.acceptor.handshakes.turned gate.new.acceptor.handshakes.turned gate.old.logging gate.new.logging }
+{
+    let before = gate.acceptor().turned();
+    let answer = gate.next(alloc, wait_ms);
+    let after = gate.acceptor().turned();
+    if before != after {
+        gate.tell_turned(&risen(before, after));
+    }
+    boxed(alloc, answer)
+}
+
 /// What an acceptor answered, with its link in memory of its own.
 fn boxed<L: Link + Drop>(
     alloc: Global,
@@ -215,7 +265,7 @@ impl<R: Clock + Net + Wait + Eprint + Env + RandomSource + Copy + Drop> Acceptor
 
     fn next(&mut self, alloc: Global, wait_ms: u32) -> Result<Arrived<RealLink<R>>, LinkFault> {
         let answer = match &mut self.gate {
-            Some(gate) => boxed(alloc, gate.next(alloc, wait_ms)),
+            Some(gate) => next_of(gate, alloc, wait_ms),
             None => Err(LinkFault::Failed),
         };
         self.waits.add(&wait_ms);

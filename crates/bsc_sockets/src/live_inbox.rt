@@ -5,6 +5,7 @@ ghost use Rattle.bsc_ring.specs.Ends.{given, known_pushed, knows_all};
 use bsc_input::{LineInbox, LiveInput, RingInbox, Rouser, Taken};
 use bsc_live::{Seat, SeatWaker, Watch};
 use bsc_ring::Outlet;
+use std::alloc::Global;
 use std::io;
 use std::sync::Arc;
 
@@ -24,12 +25,16 @@ pub struct LineRouser {
 
 impl LiveInbox {
     /// The inbox at this outlet, whose node waits at this watch, and what rouses it.
-    pub(crate) fn new(outlet: Outlet, watch: &Arc<Watch>) -> io::Result<(LiveInbox, LineRouser)>
+    pub(crate) fn new(
+        alloc: Global,
+        outlet: Outlet,
+        watch: &Arc<Watch>,
+    ) -> io::Result<(LiveInbox, LineRouser)>
         requires { given outlet ≡ [] }
         ensures taken { IfOk result (λ (inbox, _). inbox.ring.taken.items ≡ []) }
         ensures outlet { IfOk result (λ (inbox, _). inbox.ring.outlet ≡ outlet) }
     {
-        let (seat, waker) = Seat::with_waker(watch)?;
+        let (seat, waker) = Seat::with_waker(alloc, watch)?;
         let ring = RingInbox::new(outlet);
         Ok((LiveInbox { ring, seat }, LineRouser { waker }))
     }

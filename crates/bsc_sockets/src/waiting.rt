@@ -75,13 +75,13 @@ impl<R: Clock + Net + Wait + Drop> RealWaiter<R> {
     }
 
     /// The inbox at this outlet, for a node that waits here, and what rouses it. Fails for a hub, which has nothing to wait by.
-    pub fn inbox(&self, outlet: Outlet) -> io::Result<(LiveInbox, LineRouser)>
+    pub fn inbox(&self, alloc: Global, outlet: Outlet) -> io::Result<(LiveInbox, LineRouser)>
         requires { given outlet ≡ [] }
         ensures taken { IfOk result (λ (inbox, _). inbox.ring.taken.items ≡ []) }
         ensures outlet { IfOk result (λ (inbox, _). inbox.ring.outlet ≡ outlet) }
     {
         match &self.watcher {
-            Some(watcher) => LiveInbox::new(outlet, &watcher.watch()?),
+            Some(watcher) => LiveInbox::new(alloc, outlet, &watcher.watch()?),
             None => Err(io::Error::from(ErrorKind::Unsupported)),
         }
     }

@@ -51,7 +51,7 @@ fn a_dialer_meets_a_gate(rt: HostRuntime) -> Result<(), Fail> {
                     }
                 }
                 let turned = gate.turned();
-                if echoed && turned.refused == 1 && turned.late == 1 {
+                if echoed && turned.no_protocol == 1 && turned.late == 1 {
                     return true;
                 }
             }

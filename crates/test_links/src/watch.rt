@@ -134,24 +134,29 @@ fn a_wait_ends_when_something_comes(rt: HostRuntime) -> Result<(), Fail> {
     Ok(())
 }
 
-/// A wake from another thread ends a wait of ten seconds at once. Where none comes behind it, a wait lasts its time.
+/// Wakes once, and lets its waker go right behind that.
+fn wake_once(waker: SeatWaker) {
+    waker.wake();
+}
+
+/// A wake from another thread ends a wait of ten seconds at once, also where its waker is gone by then. Where none comes behind it, a
+/// wait lasts its time.
 #[test]
 fn a_wake_ends_a_wait(rt: HostRuntime) -> Result<(), Fail> {
     let mut watcher = Watcher::new(rt, rt.alloc(), 2)?;
-    let (seat, waker) = Seat::with_waker(&watcher.watch()?)?;
+    let (seat, waker) = Seat::with_waker(rt.alloc(), &watcher.watch()?)?;
     seat.set_hot(false);
     let begun = Moment::now(&rt)?;
-    let (mut watcher, _waker) = thread::join(
+    let (mut watcher, ()) = thread::join(
         &rt,
         move || -> Watcher<HostRuntime> {
             watcher.wait(10_000);
             watcher
         },
-        move || -> SeatWaker {
+        move || {
             // Most often the other one sleeps by then; where it doesn't, its wait takes no time.
             thread::sleep(&rt, Duration::from_millis(20));
-            waker.wake();
-            waker
+            wake_once(waker);
         },
     );
     let woken = Moment::now(&rt)?;
