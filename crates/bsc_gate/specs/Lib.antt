@@ -1,2 +1,3 @@
 pub mod Oldest
 pub mod Arriving
+pub mod Turning

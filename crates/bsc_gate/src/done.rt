@@ -1,5 +1,5 @@
 //! Links whose handshake is done.
-ghost use Rattle.std.specs.Prelude.{◌≡◌, ℕ, length, IfSome};
+ghost use Rattle.std.specs.Prelude.{◌≡◌, ◌+◌, ◌↔◌, ℕ, length, IfSome, IsTrue};
 ghost use Rattle.std.proofs.Props.{props};
 ghost use Rattle.tungstenite.specs.Heads.{Heard};
 
@@ -23,11 +23,12 @@ impl<L: Drop> Done<L> {
         }
     }
 
-    /// Puts a link behind the others, where there is memory for it. A head was taken.
-    pub(crate) fn push(&mut self, link: L)
+    /// Puts a link behind the others, and says whether there was memory for it. A head was taken.
+    pub(crate) fn push(&mut self, link: L) -> bool
         requires { Heard }
+        ensures { IsTrue result ↔ (length self.new.links.items ≡ length self.old.links.items + 1) }
     {
-        let _ = self.links.push_back(link);
+        self.links.push_back(link).is_ok()
     }
 
     /// Takes the first link.

@@ -9,9 +9,10 @@ ghost use Rattle.bsc_gate.specs.Arriving.{IfLink};
 ghost use Rattle.tungstenite.specs.Heads.{Heard};
 
 use crate::done::Done;
-use crate::handshakes::{Handshakes, Turned};
+use crate::handshakes::Handshakes;
 use crate::listening::Listening;
 use crate::socket_link::{HANDSHAKE_MS, SocketLink, accepted};
+use crate::turned::{Turned, Turning, turning_at};
 use bsc_edge::{Acceptor, Arrived, Failed, Kind, LinkFault};
 use bsc_live::{LOOK_MS, Lingering, Moment, Seat, Wakers, Watch};
 use bsc_octets::{NoMemory, Vmac};
@@ -183,8 +184,10 @@ impl<R: Clock + Net + Wait + RandomSource + Copy + Drop> HandshakeAcceptor<R> {
         self.bound
     }
 
-    /// How many streams were turned away.
-    pub fn turned(&self) -> Turned {
+    /// How many streams were turned away, by why.
+    pub fn turned(&self) -> Turned
+        ensures { result ≡ self.now.handshakes.turned }
+    {
         self.handshakes.turned()
     }
 
@@ -217,6 +220,7 @@ impl<R: Clock + Net + Wait + RandomSource + Copy + Drop> HandshakeAcceptor<R> {
         ensures kind { self.new.kind ≡ self.old.kind }
     {
         let Some(place) = self.handshakes.place() else {
+            self.handshakes.turn_away(Turning::PushedOut);
             return;
         };
         self.handshakes
@@ -224,6 +228,49 @@ impl<R: Clock + Net + Wait + RandomSource + Copy + Drop> HandshakeAcceptor<R> {
         // Most often its peer has sent all by now, and no event need tell of more.
         self.drive(alloc, place);
         self.handshakes.register(self.poll.registry(), place);
+    }
+
+    /// The link of this kind over a socket whose handshake is done waits to be handed out, unless it is turned away.
+    fn keep(
+        &mut self,
+        alloc: Global,
+        socket: TcpStream,
+        kind: Kind,
+        is_registered: bool,
+    ) -> Result<(), Turning>
+        requires { Heard }
+        ensures faults { self.new.faults ≡ self.old.faults }
+        ensures quiets { self.new.quiets ≡ self.old.quiets }
+        ensures bound { self.new.bound ≡ self.old.bound }
+        ensures kind { self.new.kind ≡ self.old.kind }
+        ensures turned { self.new.handshakes ≡ self.old.handshakes }
+    {
+        let mut socket = socket;
+        if is_registered && self.poll.registry().deregister(&mut socket).is_err() {
+            return Err(Turning::Failed);
+        }
+        if self.watch.is_some() && DONE <= self.done.len() {
+            return Err(Turning::PushedOut);
+        }
+        let link = accepted(
+            self.rt,
+            alloc,
+            socket,
+            kind,
+            &self.bells,
+            &self.watch,
+            &self.lingering,
+        );
+        match link {
+            Ok(link) => {
+                if self.done.push(link) {
+                    Ok(())
+                } else {
+                    Err(Turning::NoMemory)
+                }
+            }
+            Err(fault) => Err(turning_at(fault)),
+        }
     }
 
     /// Goes on with a handshake. Its link waits to be handed out where it is done.
@@ -236,24 +283,8 @@ impl<R: Clock + Net + Wait + RandomSource + Copy + Drop> HandshakeAcceptor<R> {
         let Some((socket, kind, is_registered)) = self.handshakes.go_on(place) else {
             return;
         };
-        let mut socket = socket;
-        if is_registered && self.poll.registry().deregister(&mut socket).is_err() {
-            return;
-        }
-        if self.watch.is_some() && DONE <= self.done.len() {
-            return;
-        }
-        let link = accepted(
-            self.rt,
-            alloc,
-            socket,
-            kind,
-            &self.bells,
-            &self.watch,
-            &self.lingering,
-        );
-        if let Ok(link) = link {
-            self.done.push(link);
+        if let Err(why) = self.keep(alloc, socket, kind, is_registered) {
+            self.handshakes.turn_away(why);
         }
     }
 
@@ -275,7 +306,15 @@ impl<R: Clock + Net + Wait + RandomSource + Copy + Drop> HandshakeAcceptor<R> {
                     ErrorKind::WouldBlock => Backlog::Empty,
                     // The peer went before it was taken: others may stand behind it.
                     ErrorKind::ConnectionAborted => Backlog::More,
-                    _ => Backlog::Stuck,
+                    ErrorKind::OutOfMemory => {
+                        self.handshakes.turn_away(Turning::NoMemory);
+                        Backlog::Stuck
+                    }
+                    // No descriptor is left for it.
+                    _ => {
+                        self.handshakes.turn_away(Turning::NoDescriptor);
+                        Backlog::Stuck
+                    }
                 };
                 None
             }

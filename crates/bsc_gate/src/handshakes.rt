@@ -1,26 +1,42 @@
 //! The handshakes that are at work, as rows of one table.
-ghost use Rattle.std.specs.Prelude.{◌≡◌, ◌<◌, [], None, IfSome, vec_len};
+ghost use Rattle.std.specs.Prelude.{◌≡◌, ◌⊎◌, ◌<◌, [], None, Option, IfSome, slice_get, vec_len};
 ghost use Rattle.bsc_gate.specs.Oldest.{MayTake};
+ghost use Rattle.bsc_gate.specs.Turning.{OnlyLate, turned_by, turned_from, turned_once, turning_by, turning_of};
+ghost use Rattle.bsc_gate.specs.declared.turned.Turning.{Turning as TurningType};
+ghost use Rattle.bsc_gate.specs.declared.turned.Turning.TheVariants as cause;
 ghost use Rattle.tungstenite.specs.Heads.{Heard};
 
 use crate::oldest::{Oldest, older};
+use crate::turned::{Turned, Turning};
 use bsc_edge::Kind;
 use bsc_live::Moment;
 use bsc_octets::NoMemory;
-use bsc_ws::{Handshake, HandshakeStep, begin};
+use bsc_ws::{Handshake, HandshakeStep, Unmet, begin};
 use mio::net::TcpStream;
 use mio::{Interest, Registry, Token};
 use std::alloc::Global;
+use std::io::{Read, Write};
 
-/// How many streams were turned away, and why.
-#[derive(Clone, Copy, Debug, PartialEq, Eq)]
-pub struct Turned {
-    /// Their handshake wasn't done in its time.
-    pub late: u64,
-    /// Their handshake failed.
-    pub refused: u64,
-    /// They had the oldest handshake when the table was full.
-    pub pushed_out: u64,
+/// Why a stream is turned away whose handshake failed so.
+fn turning_of(unmet: Unmet) -> Turning
+    ensures { result ≡ turning_of unmet }
+{
+    match unmet {
+        Unmet::NoProtocol => Turning::NoProtocol,
+        Unmet::LongHead => Turning::LongHead,
+        Unmet::Other => Turning::Failed,
+    }
+}
+
+/// Why a stream is turned away whose handshake came to this, if it is.
+fn turning_by<T: Read + Write + Drop>(step: &HandshakeStep<T>) -> Option<Turning>
+    ensures { result ≡ turning_by step.now }
+{
+    match step {
+        HandshakeStep::More(_) | HandshakeStep::Done(_, _) => None,
+        HandshakeStep::Refused(unmet) => Some(turning_of(*unmet)),
+        HandshakeStep::NoMemory => Some(Turning::NoMemory),
+    }
 }
 
 /// A handshake, and when it must be done.
@@ -51,15 +67,22 @@ impl Handshakes {
         Ok(Handshakes {
             rows,
             due: Moment { micros: u64::MAX },
-            turned: Turned {
-                late: 0,
-                refused: 0,
-                pushed_out: 0,
-            },
+            turned: Turned::NONE,
         })
     }
 
-    pub(crate) fn turned(&self) -> Turned {
+    /// A stream that has no handshake here is turned away.
+    pub(crate) fn turn_away(&mut self, why: Turning)
+        ensures turned { self.new.turned ≡ turned_once why self.old.turned }
+        ensures rows { self.new.rows ≡ self.old.rows }
+    {
+        self.turned.add(why);
+    }
+
+    /// How many streams were turned away.
+    pub(crate) fn turned(&self) -> Turned
+        ensures { result ≡ self.now.turned }
+    {
         self.turned
     }
 
@@ -91,7 +114,8 @@ impl Handshakes {
         kind: Kind,
         until: Moment,
     )
-        ensures { vec_len self.new.rows ≡ vec_len self.old.rows }
+        ensures rows { vec_len self.new.rows ≡ vec_len self.old.rows }
+        ensures turned { self.new.turned ≡ turned_from (slice_get self.old.rows.items place) self.old.turned }
     {
         let begun = Row {
             handshake: begin(alloc, socket, kind),
@@ -100,7 +124,7 @@ impl Handshakes {
         };
         if let Some(row) = self.rows.get_mut(place) {
             if row.is_some() {
-                self.turned.pushed_out = self.turned.pushed_out.saturating_add(1);
+                self.turned.add(Turning::PushedOut);
             }
             *row = Some(begun);
             if until.micros < self.due.micros {
@@ -112,7 +136,8 @@ impl Handshakes {
     /// Has a registry tell of the handshake at a place, if one is there, as the token one behind the place. One of which it can't tell
     /// is dropped.
     pub(crate) fn register(&mut self, registry: &Registry, place: usize)
-        ensures { vec_len self.new.rows ≡ vec_len self.old.rows }
+        ensures rows { vec_len self.new.rows ≡ vec_len self.old.rows }
+        ensures turned { (self.new.turned ≡ self.old.turned) ⊎ (self.new.turned ≡ turned_once cause.Failed self.old.turned) }
     {
         let Some(there) = self.rows.get_mut(place) else {
             return;
@@ -129,6 +154,7 @@ impl Handshakes {
         };
         if failed {
             *there = None;
+            self.turned.add(Turning::Failed);
         }
     }
 
@@ -137,6 +163,8 @@ impl Handshakes {
     pub(crate) fn go_on(&mut self, place: usize) -> Option<(TcpStream, Kind, bool)>
         ensures rows { vec_len self.new.rows ≡ vec_len self.old.rows }
         ensures heard { IfSome result (λ _. Heard) }
+        // At most one stream is turned away, and none where it is done.
+        ensures turned { (why : Option TurningType) × (self.new.turned ≡ turned_by why self.old.turned) × IfSome result (λ _. why ≡ None) }
     {
         let row = self.rows.get_mut(place)?;
         let Row {
@@ -144,7 +172,9 @@ impl Handshakes {
             until,
             is_registered,
         } = row.take()?;
-        match handshake.go_on() {
+        let step = handshake.go_on();
+        self.turned.add_for(turning_by(&step));
+        match step {
             HandshakeStep::More(handshake) => {
                 *row = Some(Row {
                     handshake,
@@ -154,24 +184,28 @@ impl Handshakes {
                 None
             }
             HandshakeStep::Done(socket, kind) => Some((socket, kind, is_registered)),
-            HandshakeStep::Refused => {
-                self.turned.refused = self.turned.refused.saturating_add(1);
-                None
-            }
-            HandshakeStep::NoMemory => {
-                self.turned.refused = self.turned.refused.saturating_add(1);
-                None
-            }
+            HandshakeStep::Refused(_) | HandshakeStep::NoMemory => None,
         }
     }
 
     /// Drops the handshakes whose time is over. Before it may be over of one, it looks at none.
     pub(crate) fn sweep(&mut self, now: Moment)
-        ensures { vec_len self.new.rows ≡ vec_len self.old.rows }
+        ensures rows { vec_len self.new.rows ≡ vec_len self.old.rows }
+        ensures turned { OnlyLate self.old.turned self.new.turned }
     {
         if now.micros < self.due.micros {
             return;
         }
+        let late = self.drop_late(now);
+        self.turned.add_late(late);
+    }
+
+    /// Drops the handshakes whose time is over, and says how many they were.
+    fn drop_late(&mut self, now: Moment) -> u64
+        ensures rows { vec_len self.new.rows ≡ vec_len self.old.rows }
+        ensures turned { self.new.turned ≡ self.old.turned }
+    {
+        let mut late = 0u64;
         let mut due = Moment { micros: u64::MAX };
         for place in 0..self.rows.len() {
             if let Some(row) = self.rows.get_mut(place) {
@@ -181,12 +215,13 @@ impl Handshakes {
                 };
                 if row.is_some() && until.micros <= now.micros {
                     *row = None;
-                    self.turned.late = self.turned.late.saturating_add(1);
+                    late = late.saturating_add(1);
                 } else if until.micros < due.micros {
                     due = until;
                 }
             }
         }
         self.due = due;
+        late
     }
 }

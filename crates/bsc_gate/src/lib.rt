@@ -11,8 +11,9 @@ mod listening;
 mod oldest;
 mod opening;
 mod socket_link;
+mod turned;
 
 pub use handshake_acceptor::HandshakeAcceptor;
-pub use handshakes::Turned;
 pub use opening::SocketOpener;
 pub use socket_link::{HANDSHAKE_MS, SocketLink, WRITE_MS};
+pub use turned::{Turned, Turning};

@@ -59,7 +59,8 @@ pub(crate) fn alive<R: Clock + Net + Wait + Copy + Drop>(
     let Ok(bells) = Arc::try_clone(bells) else {
         return Err(LinkFault::NoMemory);
     };
-    Ok((stream, LivePatience::new(rt, bell, bells)))
+    let patience = LivePatience::new(rt, bell, bells).beside(&stream);
+    Ok((stream, patience))
 }
 
 /// The link of this kind over a socket whose handshake is done. Where nobody waits for it together with others, what is put before the next

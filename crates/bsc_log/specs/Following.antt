@@ -31,7 +31,7 @@ IsAsker stage m None = may_join stage ≡ true → ¬ AsksPlainly m
 
 -- What is told of a link of which this is known.
 abbrev pub told_of : Course → Duration → LogEvent → LogRecord
-told_of c since event = record { since = since; event = event; link = c.link; conn = c.conn; who = c.who; received = c.received; sent = c.sent }
+told_of c since event = record { since = since; event = event; link = Some c.link; conn = c.conn; who = c.who; received = c.received; sent = c.sent }
 
 -- What was told grew by this, if it is anything, with what is known of the link.
 abbrev pub Tells : Course → Option LogEvent → List LogRecord → List LogRecord → Type 0

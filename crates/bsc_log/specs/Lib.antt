@@ -9,4 +9,5 @@ pub mod Lines
 pub mod Logged
 pub mod Naks
 pub mod Stamps
+pub mod Turnings
 pub mod Words

@@ -1,7 +1,9 @@
 -- At most ten lines of a kind a second.
-use Rattle.std.specs.Prelude.{ℕ, ◌+◌, ◌==◌, ◌||◌, Bool, true, false, nat_lt, if◌then◌else◌}
+use Rattle.std.specs.Prelude.{ℕ, ◌+◌, ◌==◌, ◌||◌, Bool, Option, Some, None, nat_lt, if◌then◌else◌}
 use Rattle.bsc_log.specs.declared.log_event.LogEvent.{LogEvent}
-use Rattle.bsc_log.specs.declared.log_event.LogEvent.TheVariants.{Nak, NaksLeftOut}
+use Rattle.bsc_log.specs.declared.log_event.LogEvent.TheVariants.{Nak, Denied, Turned, LeftOut}
+use Rattle.bsc_log.specs.declared.log_event.Limited.{Limited}
+use Rattle.bsc_log.specs.declared.log_event.Limited.TheVariants.{Naks, Denials, Turned as TurnedFor}
 use Rattle.bsc_log.specs.declared.log_record.LogRecord.{LogRecord}
 use Rattle.bsc_log.specs.declared.limit.Limit.{Limit}
 use Rattle.bsc_log.specs.Courses.{counted}
@@ -36,11 +38,13 @@ left_over second l = if goes_with second l then 0 else l.left_out
 abbrev pub settled : ℕ → Limit → Limit
 settled second l = if goes_with second l then l else record l { left_out = 0 }
 
--- Whether a NAK is told: of them there are at most ten a second.
-abbrev pub is_nak : LogEvent → Bool
-is_nak (Nak nak) = true
-is_nak event = false
+-- The kind of lines of which at most ten a second are told, where this is one.
+abbrev pub limited : LogEvent → Option Limited
+limited (Nak nak) = Some Naks
+limited Denied = Some Denials
+limited (Turned why) = Some (TurnedFor why)
+limited event = None
 
--- what is told of those that were left out, of which this was the last
-abbrev pub count_of : LogRecord → ℕ → LogRecord
-count_of last n = record last { event = NaksLeftOut n }
+-- what is told of so many lines of this kind that were left out, of which this was the last
+abbrev pub count_of : Limited → LogRecord → ℕ → LogRecord
+count_of kind last n = record last { event = LeftOut kind n }

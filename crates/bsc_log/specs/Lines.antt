@@ -1,11 +1,13 @@
 -- The text of a line.
 use Rattle.std.specs.Prelude.{ℕ, List, ◌++◌, codes, decimal}
 use Rattle.bsc_log.specs.declared.log_event.LogEvent.{LogEvent}
-use Rattle.bsc_log.specs.declared.log_event.LogEvent.TheVariants.{Joined, TookOver, Refused, Denied, Ended, NoSession, Nak as Answered, NaksLeftOut}
+use Rattle.bsc_log.specs.declared.log_event.LogEvent.TheVariants.{Joined, TookOver, Refused, Denied, Ended, NoSession, Nak as Answered, Turned, LeftOut}
+use Rattle.bsc_log.specs.declared.log_event.Limited.{Limited}
+use Rattle.bsc_log.specs.declared.log_event.Limited.TheVariants.{Naks, Denials, Turned as TurnedFor}
 use Rattle.bsc_log.specs.declared.line.Line.{Line}
 use Rattle.bsc_log.specs.Fields.{connection_text, peer_text}
 use Rattle.bsc_log.specs.declared.nak.Nak.{Nak}
-use Rattle.bsc_log.specs.Words.{cause_text, code_text, refusal_text, word_of}
+use Rattle.bsc_log.specs.Words.{cause_text, code_text, refusal_text, turning_text, word_of}
 
 -- what a NAK says: its error class, error code and header marker as numbers, the code's name, and the checks that have it
 abbrev pub nak_text : Nak → List ℕ
@@ -14,8 +16,10 @@ nak_text nak =
     ++ (codes " " ++ code_text nak.code))))))
 
 -- how many lines were left out
-abbrev pub left_out_text : ℕ → List ℕ
-left_out_text n = codes "left out " ++ decimal n
+abbrev pub left_out_text : Limited → ℕ → List ℕ
+left_out_text Naks n = codes "left out " ++ decimal n
+left_out_text Denials n = codes "left out " ++ decimal n
+left_out_text (TurnedFor why) n = turning_text why ++ (codes ", left out " ++ decimal n)
 
 -- why something became of a link; where there is no reason, a hyphen stands
 abbrev pub reason_text : LogEvent → List ℕ
@@ -26,11 +30,12 @@ reason_text Denied = codes "policy"
 reason_text (Ended cause) = cause_text cause
 reason_text NoSession = codes "no session"
 reason_text (Answered nak) = nak_text nak
-reason_text (NaksLeftOut n) = left_out_text n
+reason_text (Turned why) = turning_text why
+reason_text (LeftOut kind n) = left_out_text kind n
 
 -- the time, what became of a link of a hub, and its number
 abbrev pub what_text : Line → List ℕ
-what_text line = line.stamp.bytes ++ (codes " hub " ++ (word_of line.event ++ (codes " link " ++ decimal line.link)))
+what_text line = line.stamp.bytes ++ (codes " hub " ++ (word_of line.event ++ (codes " link " ++ connection_text line.link)))
 
 -- its connection, and who asked to join
 abbrev pub whose_text : Line → List ℕ

@@ -1,7 +1,10 @@
 -- The words for what a line tells.
 use Rattle.std.specs.Prelude.{ℕ, List, codes, ◌==◌, if◌then◌else◌}
 use Rattle.bsc_log.specs.declared.log_event.LogEvent.{LogEvent}
-use Rattle.bsc_log.specs.declared.log_event.LogEvent.TheVariants.{Joined, TookOver, Refused, Denied, Ended, NoSession, Nak, NaksLeftOut}
+use Rattle.bsc_log.specs.declared.log_event.LogEvent.TheVariants.{Joined, TookOver, Refused, Denied, Ended, NoSession, Nak, Turned, LeftOut}
+use Rattle.bsc_log.specs.declared.log_event.Limited.TheVariants.{Naks, Denials, Turned as TurnedFor}
+use Rattle.bsc_log.specs.declared.log_event.Turning.{Turning}
+use Rattle.bsc_log.specs.declared.log_event.Turning.TheVariants as T
 use Rattle.bsc_log.specs.declared.log_event.JoinRefusal.{JoinRefusal}
 use Rattle.bsc_log.specs.declared.log_event.JoinRefusal.TheVariants.{DuplicateVmac, TableFull, Stopped}
 use Rattle.bsc_log.specs.declared.log_event.Cause.{Cause}
@@ -17,13 +20,26 @@ word_of Denied = codes "denied"
 word_of (Ended cause) = codes "ended"
 word_of NoSession = codes "unserved"
 word_of (Nak nak) = codes "nak"
-word_of (NaksLeftOut n) = codes "nak"
+word_of (LeftOut Naks n) = codes "nak"
+word_of (LeftOut Denials n) = codes "denied"
+word_of (Turned why) = codes "turned"
+word_of (LeftOut (TurnedFor why) n) = codes "turned"
 
 -- why a device was refused
 abbrev pub refusal_text : JoinRefusal → List ℕ
 refusal_text DuplicateVmac = codes "duplicate vmac"
 refusal_text TableFull = codes "table full"
 refusal_text Stopped = codes "stopped"
+
+-- why a stream was turned away
+abbrev pub turning_text : Turning → List ℕ
+turning_text T.NoProtocol = codes "no sub-protocol"
+turning_text T.Late = codes "too late"
+turning_text T.LongHead = codes "head too long"
+turning_text T.NoDescriptor = codes "no descriptor"
+turning_text T.PushedOut = codes "handshakes full"
+turning_text T.NoMemory = codes "no memory"
+turning_text T.Failed = codes "no handshake"
 
 -- why a link ended
 abbrev pub cause_text : Cause → List ℕ

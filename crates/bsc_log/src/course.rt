@@ -125,7 +125,7 @@ impl Course {
         LogRecord {
             since,
             event,
-            link: self.link,
+            link: Some(self.link),
             conn: self.conn,
             who: self.who,
             received: self.received,

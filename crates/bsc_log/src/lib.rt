@@ -34,7 +34,7 @@ mod words;
 mod writing;
 
 pub use line::Line;
-pub use log_event::{Cause, JoinRefusal, LogEvent};
+pub use log_event::{Cause, JoinRefusal, Limited, LogEvent, Turning};
 pub use logged_acceptor::LoggedAcceptor;
 pub use logged_link::LoggedLink;
 pub use logging::Logging;

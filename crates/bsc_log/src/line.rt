@@ -10,8 +10,8 @@ pub struct Line {
     pub stamp: Stamp,
     /// What it was.
     pub event: LogEvent,
-    /// The number of the link among those that arrived.
-    pub link: u64,
+    /// The number of the link among those that arrived, if it is one.
+    pub link: Option<u64>,
     /// Its connection, if it has joined.
     pub conn: Option<u64>,
     /// Who asked to join on it last, if anybody did.

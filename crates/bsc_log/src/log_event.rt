@@ -45,6 +45,36 @@ pub enum Cause {
     Other,
 }
 
+/// Why a stream was turned away before it was a link.
+#[derive(Clone, Copy, Debug, PartialEq, Eq)]
+pub enum Turning {
+    /// Its request doesn't offer the sub-protocol.
+    NoProtocol,
+    /// Its handshake wasn't done in its time.
+    Late,
+    /// Its head has more octets than are taken.
+    LongHead,
+    /// There is no descriptor for it or its link.
+    NoDescriptor,
+    /// The table of handshakes was full, and its was the oldest.
+    PushedOut,
+    /// There was no memory.
+    NoMemory,
+    /// Its handshake failed otherwise.
+    Failed,
+}
+
+/// A kind of lines of which at most ten a second are told.
+#[derive(Clone, Copy, Debug, PartialEq, Eq)]
+pub enum Limited {
+    /// NAKs.
+    Naks,
+    /// Devices that the policy doesn't admit.
+    Denials,
+    /// Streams that were turned away for this.
+    Turned(Turning),
+}
+
 /// What a line tells of a link.
 #[derive(Clone, Copy, Debug, PartialEq, Eq)]
 pub enum LogEvent {
@@ -62,6 +92,8 @@ pub enum LogEvent {
     NoSession,
     /// The hub answered its Connect-Request with this NAK.
     Nak(Nak),
-    /// So many such NAKs had no line.
-    NaksLeftOut(u64),
+    /// It was turned away before it was a link.
+    Turned(Turning),
+    /// So many lines of this kind were left out.
+    LeftOut(Limited, u64),
 }

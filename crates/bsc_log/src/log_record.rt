@@ -2,9 +2,10 @@
 ghost use Rattle.std.specs.Prelude.{◌≡◌};
 ghost use Rattle.std.specs.Duration.{as_nanos};
 ghost use Rattle.bsc_log.specs.Stamps.{IsStampOf};
+ghost use Rattle.bsc_log.specs.Turnings.{turned_at};
 
 use crate::line::Line;
-use crate::log_event::LogEvent;
+use crate::log_event::{LogEvent, Turning};
 use crate::stamp::Day;
 use bsc_octets::Identity;
 use std::time::Duration;
@@ -16,8 +17,8 @@ pub(crate) struct LogRecord {
     pub(crate) since: Duration,
     /// What it was.
     pub(crate) event: LogEvent,
-    /// The number of the link among those that arrived.
-    pub(crate) link: u64,
+    /// The number of the link among those that arrived, if it is one.
+    pub(crate) link: Option<u64>,
     /// Its connection, if it has joined.
     pub(crate) conn: Option<u64>,
     /// Who asked to join on it last, if anybody did.
@@ -29,6 +30,21 @@ pub(crate) struct LogRecord {
 }
 
 impl LogRecord {
+    /// A stream was turned away at this time, for this.
+    pub(crate) fn turned(since: Duration, why: Turning) -> LogRecord
+        ensures { result ≡ turned_at since why }
+    {
+        LogRecord {
+            since,
+            event: LogEvent::Turned(why),
+            link: None,
+            conn: None,
+            who: None,
+            received: 0,
+            sent: 0,
+        }
+    }
+
     /// The line that says it, with the day that its stamp was made of last.
     pub(crate) fn line(&self, day: &mut Day) -> Line
         ensures stamp { IsStampOf (as_nanos self.now.since) result.stamp.bytes }

@@ -1,10 +1,15 @@
 //! An acceptor of links of which lines are told.
-ghost use Rattle.std.specs.Prelude.{◌≡◌, None, IsSome, List, Option};
+ghost use Rattle.std.specs.Prelude.{◌≡◌, ◌≤◌, true, [], ◌∷◌, None, Err, IsSome, List, Option};
+ghost use Rattle.std.specs.List.{list_all};
 ghost use Rattle.std.proofs.Common.{refl};
-ghost use Rattle.bsc_edge.specs.Told.{Leaves};
+ghost use Rattle.bsc_edge.specs.declared.fault.LinkFault.{LinkFault};
+ghost use Rattle.bsc_edge.specs.Told.{Grows, IsNoLink, Leaves, Stays, arrived_in};
+ghost use Rattle.bsc_outside.specs.Faults.{HasRisen};
 ghost use Rattle.bsc_log.specs.Logged.{Covers, left_by};
+ghost use Rattle.bsc_log.specs.Turnings.{TellsTurned, turned_told};
 
 use crate::link_log::LinkLog;
+use crate::log_event::Turning;
 use crate::logged_link::LoggedLink;
 use crate::logging::Logging;
 use bsc_edge::{Acceptor, Arrived, Failed, LinkFault};
@@ -28,12 +33,32 @@ impl<A, R> LoggedAcceptor<A, R> {
     {
         LoggedAcceptor { acceptor, logging }
     }
+
+    /// The acceptor under it.
+    pub fn acceptor(&self) -> &A
+        ensures { result.now ≡ self.now.acceptor }
+    {
+        &self.acceptor
+    }
+}
+
+impl<A, R: Clock + Wait> LoggedAcceptor<A, R> {
+    /// So many streams were turned away, each for this. Each is told of, where there is a logging.
+    pub fn tell_turned(&mut self, counts: &[(Turning, u64)])
+        ensures told { TellsTurned counts.now self.old.logging self.new.logging }
+        ensures acceptor { self.new.acceptor ≡ self.old.acceptor }
+    {
+        if let Some(logging) = &mut self.logging {
+            logging.turn_all(counts);
+        }
+    }
 }
 
 /// The log of the next link, where there is a logging.
 fn next_log<R: Copy>(logging: &mut Option<Logging<R>>) -> Option<LinkLog<R>>
     ensures off { logging.old ≡ None → (result ≡ None) × (logging.new ≡ None) }
     ensures on { IsSome logging.old → IsSome logging.new }
+    ensures turned { turned_told logging.new ≡ turned_told logging.old }
 {
     match logging {
         Some(logging) => logging.next_log(),
@@ -48,6 +73,8 @@ fn covered<L, R: Copy>(
 ) -> Result<Arrived<LoggedLink<L, R>>, LinkFault>
     ensures covers { Covers answer result }
     ensures leaves { (l l' : Option (List L)) → Leaves l l' answer → Leaves (left_by logging.old l) (left_by logging.new l') result }
+    ensures on { IsSome logging.old → IsSome logging.new }
+    ensures turned { turned_told logging.new ≡ turned_told logging.old }
 {
     match answer {
         Ok(Arrived::Link(link)) => { Ok(Arrived::Link(LoggedLink::new(link, next_log(logging)))) }
@@ -91,11 +118,20 @@ impl<L, R: Clock + Wait + Copy, A: Acceptor<L>> Acceptor<LoggedLink<L, R>>
         self.acceptor.bind(port, owner)
     }
 
-    fn next(
-        &mut self,
-        alloc: Global,
-        wait_ms: u32,
-    ) -> Result<Arrived<LoggedLink<L, R>>, LinkFault> {
+    fn next(&mut self, alloc: Global, wait_ms: u32) -> Result<Arrived<LoggedLink<L, R>>, LinkFault>
+        ensures on { IsSome self.old.logging → IsSome self.new.logging }
+        ensures turned { turned_told self.new.logging ≡ turned_told self.old.logging }
+        ensures bound { Stays (A.bound self.old.acceptor) (A.bound self.new.acceptor) }
+        ensures left { Leaves (left_by self.old.logging (A.left self.old.acceptor)) (left_by self.new.logging (A.left self.new.acceptor)) result }
+        ensures came { Grows None None (arrived_in result) }
+        ensures fresh { list_all (λ _. true) (arrived_in result) ≡ true }
+        ensures waits { Grows (A.waits self.old.acceptor) (A.waits self.new.acceptor) (wait_ms ∷ []) }
+        ensures unwoken { A.stops self.new.acceptor ≡ A.stops self.old.acceptor }
+        ensures later { A.faults self.old.acceptor ≤ A.faults self.new.acceptor }
+        ensures failed { result ≡ Err LinkFault.Failed → HasRisen (A.faults self.old.acceptor) (A.faults self.new.acceptor) }
+        ensures quiets { A.quiets self.old.acceptor ≤ A.quiets self.new.acceptor }
+        ensures quiet { IsNoLink result → HasRisen (A.quiets self.old.acceptor) (A.quiets self.new.acceptor) }
+    {
         let answer = self.acceptor.next(alloc, wait_ms);
         look(&self.logging, brings_link(&answer));
         covered(&mut self.logging, answer)

@@ -1,8 +1,8 @@
 //! The words for what a line tells.
 ghost use Rattle.std.specs.Prelude.{◌≡◌};
-ghost use Rattle.bsc_log.specs.Words.{cause_text, code_text, refusal_text, word_of};
+ghost use Rattle.bsc_log.specs.Words.{cause_text, code_text, refusal_text, turning_text, word_of};
 
-use crate::log_event::{Cause, JoinRefusal, LogEvent};
+use crate::log_event::{Cause, JoinRefusal, Limited, LogEvent, Turning};
 use crate::nak::Nak;
 use bsc_octets::results;
 
@@ -15,10 +15,11 @@ impl LogEvent {
             LogEvent::Joined => "joined",
             LogEvent::TookOver(_) => "takeover",
             LogEvent::Refused(_) => "refused",
-            LogEvent::Denied => "denied",
+            LogEvent::Denied | LogEvent::LeftOut(Limited::Denials, _) => "denied",
             LogEvent::Ended(_) => "ended",
             LogEvent::NoSession => "unserved",
-            LogEvent::Nak(_) | LogEvent::NaksLeftOut(_) => "nak",
+            LogEvent::Nak(_) | LogEvent::LeftOut(Limited::Naks, _) => "nak",
+            LogEvent::Turned(_) | LogEvent::LeftOut(Limited::Turned(_), _) => "turned",
         }
     }
 }
@@ -32,6 +33,23 @@ impl JoinRefusal {
             JoinRefusal::DuplicateVmac => "duplicate vmac",
             JoinRefusal::TableFull => "table full",
             JoinRefusal::Stopped => "stopped",
+        }
+    }
+}
+
+impl Turning {
+    /// Why a stream was turned away.
+    pub fn text(self) -> &'static str
+        ensures { result.now ≡ turning_text self }
+    {
+        match self {
+            Turning::NoProtocol => "no sub-protocol",
+            Turning::Late => "too late",
+            Turning::LongHead => "head too long",
+            Turning::NoDescriptor => "no descriptor",
+            Turning::PushedOut => "handshakes full",
+            Turning::NoMemory => "no memory",
+            Turning::Failed => "no handshake",
         }
     }
 }

@@ -4,7 +4,7 @@ ghost use Rattle.bsc_log.specs.Lines.{left_out_text, line_text, nak_text, reason
 
 use crate::fields::{put_connection, put_field, put_peer};
 use crate::line::Line;
-use crate::log_event::LogEvent;
+use crate::log_event::{Limited, LogEvent};
 use crate::nak::Nak;
 use bsc_lines::put_words;
 use bsc_octets::NoMemory;
@@ -20,11 +20,17 @@ fn put_nak(text: &mut Vec<u8>, nak: Nak) -> Result<(), NoMemory>
     put_words(text, nak.text())
 }
 
-/// Puts how many lines were left out.
-fn put_left_out(text: &mut Vec<u8>, n: u64) -> Result<(), NoMemory>
-    ensures { IfOk result (λ _. text.new.items ≡ text.old.items ++ left_out_text n) }
+/// Puts how many lines of a kind were left out.
+fn put_left_out(text: &mut Vec<u8>, kind: Limited, n: u64) -> Result<(), NoMemory>
+    ensures { IfOk result (λ _. text.new.items ≡ text.old.items ++ left_out_text kind n) }
 {
-    put_field(text, "left out ", n)
+    match kind {
+        Limited::Naks | Limited::Denials => put_field(text, "left out ", n),
+        Limited::Turned(why) => {
+            put_words(text, why.text())?;
+            put_field(text, ", left out ", n)
+        }
+    }
 }
 
 /// Puts why something became of a link.
@@ -39,7 +45,8 @@ fn put_reason(text: &mut Vec<u8>, event: LogEvent) -> Result<(), NoMemory>
         LogEvent::Ended(cause) => put_words(text, cause.text()),
         LogEvent::NoSession => put_words(text, "no session"),
         LogEvent::Nak(nak) => put_nak(text, nak),
-        LogEvent::NaksLeftOut(n) => put_left_out(text, n),
+        LogEvent::Turned(why) => put_words(text, why.text()),
+        LogEvent::LeftOut(kind, n) => put_left_out(text, kind, n),
     }
 }
 
@@ -50,7 +57,8 @@ fn put_what(text: &mut Vec<u8>, line: &Line) -> Result<(), NoMemory>
     put_words(text, line.stamp.as_str())?;
     put_words(text, " hub ")?;
     put_words(text, line.event.word())?;
-    put_field(text, " link ", line.link)
+    put_words(text, " link ")?;
+    put_connection(text, line.link)
 }
 
 /// Puts the link's connection, and who asked to join.

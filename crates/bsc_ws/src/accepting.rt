@@ -1,13 +1,13 @@
 //! The server's handshake.
 ghost use Rattle.std.specs.Prelude.{◌≡◌, IfOk};
-ghost use Rattle.bsc_ws.specs.Handshakes.{IfDone, IfMore, kind_of};
+ghost use Rattle.bsc_ws.specs.Handshakes.{IfDone, IfMore, IsFailedFor, IsUnmetBy, kind_of};
 ghost use Rattle.bsc_ws.specs.Limits.{HasOurLimits};
 ghost use Rattle.tungstenite.specs.Heads.{Heard};
 ghost use Rattle.tungstenite.specs.Socket.{IsFresh};
 ghost use Rattle.websocket.specs.declared.protocol.config.Role.TheVariants as Role;
 
 use crate::bounds::limits;
-use crate::handshake::{Handshake, HandshakeStep};
+use crate::handshake::{Handshake, HandshakeStep, Unmet};
 use crate::head::Head;
 use crate::kinds::OfKind;
 use crate::protocol::Takes;
@@ -15,7 +15,7 @@ use crate::rounds::{Mid, Rounds};
 use crate::stream_link::StreamLink;
 use bsc_edge::{Kind, LinkFault, Patience};
 use std::alloc::Global;
-use std::io::{Read, Write};
+use std::io::{ErrorKind, Read, Write};
 use std::marker::PhantomData;
 use tungstenite::handshake::HandshakeError;
 use tungstenite::handshake::server::start;
@@ -51,10 +51,28 @@ fn first<T: Read + Write + Drop, P: OfKind + Drop>(alloc: Global, stream: T) -> 
     )
 }
 
+/// Why a handshake failed by this error; none where there was no memory. No read fails as invalid but that of a head that is too long.
+fn unmet_by(error: Error) -> Option<Unmet>
+    ensures { IsUnmetBy error result }
+{
+    match error {
+        Error::OutOfMemory => None,
+        Error::Refused(_) => Some(Unmet::NoProtocol),
+        Error::Io(cause) => {
+            if cause.kind() == ErrorKind::InvalidData {
+                Some(Unmet::LongHead)
+            } else {
+                Some(Unmet::Other)
+            }
+        }
+        _ => Some(Unmet::Other),
+    }
+}
+
 /// Goes on with a handshake: its stream where it is done, and else what is left to do.
 fn next<T: Read + Write + Drop, P: OfKind + Drop>(
     rounds: Mid<T, P>,
-) -> Result<Result<T, Mid<T, P>>, LinkFault>
+) -> Result<Result<T, Mid<T, P>>, Option<Unmet>>
     // Where it is done, a head was taken that asks for an upgrade with a valid key (RFC 6455, section 4.2.1).
     ensures { IfOk result (λ r. IfOk r (λ _. Heard)) }
 {
@@ -62,19 +80,19 @@ fn next<T: Read + Write + Drop, P: OfKind + Drop>(
         // No octet is lost: a head with octets behind it is refused.
         Ok(socket) => Ok(Ok(socket.into_inner().into_inner())),
         Err(HandshakeError::Interrupted(rounds)) => Ok(Err(rounds)),
-        Err(HandshakeError::Failure(Error::OutOfMemory)) => Err(LinkFault::NoMemory),
-        Err(HandshakeError::Failure(_)) => Err(LinkFault::Failed),
+        Err(HandshakeError::Failure(error)) => Err(unmet_by(error)),
     }
 }
 
-/// What a handshake comes to that wasn't gone on with for this.
-fn failed<T: Read + Write + Drop>(fault: LinkFault) -> HandshakeStep<T>
+/// What a handshake comes to that failed for this, or for want of memory.
+fn failed<T: Read + Write + Drop>(why: Option<Unmet>) -> HandshakeStep<T>
     ensures more { IfMore result (λ _. ⊥) }
     ensures done { IfDone result (λ _. ⊥) }
+    ensures failed { IsFailedFor why result }
 {
-    match fault {
-        LinkFault::NoMemory => HandshakeStep::NoMemory,
-        LinkFault::Failed => HandshakeStep::Refused,
+    match why {
+        None => HandshakeStep::NoMemory,
+        Some(unmet) => HandshakeStep::Refused(unmet),
     }
 }
 
@@ -160,6 +178,6 @@ pub fn accept<T: Read + Write + Drop, W: Patience + Drop, K: MaskKeys + Drop>(
         HandshakeStep::Done(stream, kind) => Ok(settle(alloc, stream, wait, keys, kind)),
         HandshakeStep::NoMemory => Err(LinkFault::NoMemory),
         HandshakeStep::More(_) => Err(LinkFault::Failed),
-        HandshakeStep::Refused => Err(LinkFault::Failed),
+        HandshakeStep::Refused(_) => Err(LinkFault::Failed),
     }
 }

@@ -9,6 +9,17 @@ pub struct Handshake<T: Read + Write + Drop> {
     pub(crate) rounds: Rounds<T>,
 }
 
+/// Why a handshake failed.
+#[derive(Clone, Copy, Debug, PartialEq, Eq)]
+pub enum Unmet {
+    /// The request doesn't offer our sub-protocol.
+    NoProtocol,
+    /// The head has more octets than are taken.
+    LongHead,
+    /// What came is no request for a WebSocket, or the stream ended.
+    Other,
+}
+
 /// What going on with a handshake comes to.
 #[derive(Drop)]
 pub enum HandshakeStep<T: Read + Write + Drop> {
@@ -16,8 +27,8 @@ pub enum HandshakeStep<T: Read + Write + Drop> {
     More(Handshake<T>),
     /// It is done: this is its stream, and a link of this kind was asked for and is taken.
     Done(T, Kind),
-    /// It failed: no head of ours, another sub-protocol, or the stream ended.
-    Refused,
+    /// It failed.
+    Refused(Unmet),
     /// There was no memory.
     NoMemory,
 }

@@ -1,5 +1,7 @@
 //! Streams during a server's handshake.
-ghost use Rattle.std.specs.Prelude.{◌≡◌, ◌≤◌, ◌-◌, IfOk, IsErr, OnErr, length};
+ghost use Rattle.std.specs.Prelude.{◌≡◌, ◌≢◌, ◌≤◌, ◌-◌, IfErr, IfOk, IsErr, OnErr, length};
+ghost use Rattle.std.specs.IoError.{error_kind};
+ghost use Rattle.std.specs.declared.io.ErrorKind.TheVariants as kinds;
 
 use std::io::{self, ErrorKind, Read, Write};
 
@@ -36,6 +38,18 @@ impl<T> Head<T> {
     }
 }
 
+/// The same error of a stream, but for one that would say of a head that it is too long.
+fn unlike_long(error: io::Error) -> io::Error
+    ensures kind { error_kind result ≢ kinds.InvalidData }
+    ensures same { error_kind error ≢ kinds.InvalidData → result ≡ error }
+{
+    if error.kind() == ErrorKind::InvalidData {
+        io::Error::from(ErrorKind::Other)
+    } else {
+        error
+    }
+}
+
 impl<T: Read> Head<T> {
     /// Reads no more than is left, which becomes so many fewer.
     fn give(&mut self, buf: &mut [u8]) -> io::Result<usize>
@@ -45,14 +59,21 @@ impl<T: Read> Head<T> {
         ensures left { IfOk result (λ n. self.new.left ≡ self.old.left - n) }
         ensures kept { OnErr result (self.new.left ≡ self.old.left) }
         ensures over { self.old.left ≡ 0 → IsErr result }
+        // An error is of this kind exactly where nothing is left.
+        ensures long { self.old.left ≡ 0 → IfErr result (λ e. error_kind e ≡ kinds.InvalidData) }
+        ensures other { self.old.left ≢ 0 → IfErr result (λ e. error_kind e ≢ kinds.InvalidData) }
     {
         if self.left == 0 {
             return Err(io::Error::from(ErrorKind::InvalidData));
         }
         let most = buf.len().min(self.left);
-        let got = self.stream.read(&mut buf[..most])?;
-        self.left -= got;
-        Ok(got)
+        match self.stream.read(&mut buf[..most]) {
+            Ok(got) => {
+                self.left -= got;
+                Ok(got)
+            }
+            Err(error) => Err(unlike_long(error)),
+        }
     }
 }
 

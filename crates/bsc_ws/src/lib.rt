@@ -23,7 +23,7 @@ pub use accepting::{accept, begin, settle};
 pub use bounds::{GREATEST_MESSAGE, limits};
 pub use dialer::StreamDialer;
 pub use dialling::dial;
-pub use handshake::{Handshake, HandshakeStep};
+pub use handshake::{Handshake, HandshakeStep, Unmet};
 pub use head::Head;
 pub use opener::Opener;
 pub use stream_link::StreamLink;
