@@ -11,3 +11,4 @@ pub mod Behind
 pub mod Asked
 pub mod WorkedScripts
 pub mod Stops
+pub mod Handling

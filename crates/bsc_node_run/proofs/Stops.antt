@@ -1,5 +1,5 @@
 -- Runs that a fault stops, from what their steps did.
--- It serves clauses of functions of `performing`, `running`, `telling` and `turning`.
+-- It serves clauses of most source files here.
 use Rattle.std.proofs.Common.{◌≡◌, ◌≤◌, ◌<◌, ◌^◌, inl, inr, ℕ, suc, ◌+◌, Bool, true, false, List, [], ◌∷◌, ◌++◌, Option, Some, Result, Ok, Err, OnErr, refl, sym, subst, append_assoc, unwrap_or}
 use Rattle.std.specs.Prelude.{IsTrue}
 use Rattle.bsc_edge.specs.declared.said.Said.{Said}

@@ -1,5 +1,5 @@
 -- The parts of a turn, from what its steps did.
--- It serves clauses of functions of `turning`.
+-- It serves clauses of functions of `hearing` and `in_hand`.
 use Rattle.std.proofs.Common.{◌≡◌, ◌≤◌, ◌<◌, inl, inr, ℕ, suc, ◌+◌, ◌-◌, true, false, not, ◌&&◌, List, [], ◌∷◌, length, Option, Some, None, is_some, Result, Ok, Err, get_or, take}
 use Rattle.std.proofs.Common.{drop, refl, ap, sym, ◌∙◌, subst, arith}
 use Rattle.std.specs.List.{list_any}

@@ -28,6 +28,10 @@ pub record Drawing (N W : Type 0) : Type 0 where
 abbrev pub at_rest : {N W : Type 0} → N → W → Drawing N W
 at_rest node words = record { node = node; words = words; awaits = false }
 
+-- A word is waited for.
+abbrev pub awaiting : {N W : Type 0} → Drawing N W → Drawing N W
+awaiting d = record { node = d.node; words = d.words; awaits = true }
+
 module _ {W : Type 0} (gives : W → Option ℕ → W → Type 0) (faults : W → ℕ) where
   -- One call drew this word; or it drew none, and the count of faults rose.
   abbrev pub Draws : NodeEvent → W → W → Type 0

@@ -14,3 +14,4 @@ pub mod Scripts
 pub mod Reading
 pub mod Drawing
 pub mod Stopping
+pub mod Handling

@@ -130,3 +130,11 @@ world_of s dialled held = record {
   dialled = dialled;
   held = held;
 }
+
+-- What was done to the links of a node, whatever there is of a dialer, and whatever was written.
+abbrev pub Undergoes : {L : Type 0} → (World L → World L → Type 0) → LinkSet L → LinkSet L → Type 0
+Undergoes {L} does old new = (d : Dialling L) (h : Option (List ℕ)) → does (world_of old d h) (world_of new d h)
+
+-- They are as before, but for this.
+abbrev pub Becomes : {L : Type 0} → (World L → World L) → LinkSet L → LinkSet L → Type 0
+Becomes {L} changed old new = (d : Dialling L) (h : Option (List ℕ)) → Same (world_of new d h) (changed (world_of old d h))

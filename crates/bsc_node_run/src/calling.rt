@@ -1,7 +1,7 @@
 //! Calls on the link of a name, where it stands.
-ghost use Rattle.std.specs.Prelude.{◌≡◌, ◌<◌, List, ℕ, Option, vec_len, slice_get, slice_set};
+ghost use Rattle.std.specs.Prelude.{◌≡◌, ◌<◌, vec_len, slice_get, slice_set};
 ghost use Rattle.bsc_node_run.specs.Calling.{IsHeard, IsPut};
-ghost use Rattle.bsc_node_run.specs.Worlds.{Dialling, Same, link_if, link_in, with_link, world_of};
+ghost use Rattle.bsc_node_run.specs.Worlds.{Becomes, link_if, link_in, with_link};
 
 use crate::bounds::LINK_WAIT_MS;
 use crate::link_set::LinkSet;
@@ -77,8 +77,7 @@ impl<L: Link + Drop> LinkSet<L> {
         name: LinkName,
     ) -> Option<Result<Incoming, LinkFault>>
         ensures heard { IsHeard L.talk (link_in self.old name) (link_in self.new name) result }
-        ensures new { (d : Dialling L) (h : Option (List ℕ)) →
-            Same (world_of self.new d h) (with_link name (link_in self.new name) (world_of self.old d h)) }
+        ensures new { Becomes (with_link name (link_in self.new name)) self.old self.new }
     {
         match name {
             LinkName::Hub(Side::Primary) => receive_on(alloc, &mut self.primary),
@@ -99,8 +98,7 @@ impl<L: Link + Drop> LinkSet<L> {
         octets: &[u8],
     ) -> Result<(), LinkFault>
         ensures put { IsPut L.talk octets.now (link_in self.old name) (link_in self.new name) result }
-        ensures new { (d : Dialling L) (h : Option (List ℕ)) →
-            Same (world_of self.new d h) (with_link name (link_in self.new name) (world_of self.old d h)) }
+        ensures new { Becomes (with_link name (link_in self.new name)) self.old self.new }
     {
         match name {
             LinkName::Hub(Side::Primary) => put_on(alloc, &mut self.primary, octets),

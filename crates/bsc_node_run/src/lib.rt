@@ -1,13 +1,16 @@
 //! Runs a node (Annex AB): its links, its script and the time.
 //!
-//! Start at `running`, and go down: `turning` is one turn, `telling` one event of it, `performing` carries out what the
-//! node does. `link_set` has the links of a node, and what is new of them; `calling` receives and puts on them where they stand.
+//! Start at `running`, and go down: `turning` is one turn, `notifying` and `hearing` what a node is told in it, `telling` one event,
+//! `performing` carries out what the node does. `link_set` has the links of a node, and what is new of them; `calling` receives and
+//! puts on them where they stand.
 #![tactic(auto)]
 
 mod bounds;
 mod calling;
 mod due;
 mod halt;
+mod hearing;
+mod in_hand;
 mod laws;
 mod line;
 mod link_set;
@@ -15,6 +18,7 @@ mod linking;
 mod mem_words;
 mod news;
 mod node_core;
+mod notifying;
 mod parts;
 mod performing;
 mod reading;

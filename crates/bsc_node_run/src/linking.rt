@@ -4,7 +4,7 @@ ghost use Rattle.std.specs.Prelude.{List, ℕ, ◌<◌, ◌==◌, length, vec_le
 ghost use Rattle.std.specs.List.{list_any};
 ghost use Rattle.bsc_node.specs.declared.link_name.LinkName.{LinkName as LinkNameType};
 ghost use Rattle.bsc_node.specs.Links.{same_link};
-ghost use Rattle.bsc_node_run.specs.Worlds.{Dialling, World, Same, begun, ends, forgets, is_of, is_open, link_if, link_in};
+ghost use Rattle.bsc_node_run.specs.Worlds.{Becomes, Dialling, begun, ends, forgets, is_of, is_open, link_if, link_in};
 ghost use Rattle.bsc_node_run.specs.Worlds.{with_link, with_news, with_over, without, without_arrived, world_of};
 
 use crate::link_set::LinkSet;
@@ -95,8 +95,7 @@ impl<L: Drop> LinkSet<L> {
     /// Puts a link in the place of a name, and gives the one that was there.
     pub(crate) fn replace(&mut self, name: LinkName, link: Option<L>) -> Option<L>
         ensures old { result ≡ link_in self.old name }
-        ensures new { (d : Dialling L) (h : Option (List ℕ)) →
-            Same (world_of self.new d h) (with_link name link (world_of self.old d h)) }
+        ensures new { Becomes (with_link name link) self.old self.new }
     {
         match name {
             LinkName::Hub(Side::Primary) => mem::replace(&mut self.primary, link),
@@ -112,8 +111,7 @@ impl<L: Drop> LinkSet<L> {
     /// Takes the link that arrived.
     pub(crate) fn take_arrived(&mut self) -> Option<L>
         ensures old { result ≡ self.old.arrived }
-        ensures new { (d : Dialling L) (h : Option (List ℕ)) →
-            Same (world_of self.new d h) (without_arrived (world_of self.old d h)) }
+        ensures new { Becomes without_arrived self.old self.new }
     {
         self.arrived.take()
     }
@@ -148,12 +146,10 @@ impl<L: Drop> LinkSet<L> {
 
     /// A link was taken out.
     pub(crate) fn end(&mut self, link: L) -> Result<(), NoMemory>
-        ensures over { OnOk result ((d : Dialling L) (h : Option (List ℕ)) →
-            Same (world_of self.new d h) (with_over link (world_of self.old d h))) }
+        ensures over { OnOk result (Becomes (with_over link) self.old self.new) }
 
         // Where there is no memory to keep it, all else is as it was.
-        ensures dropped { OnErr result ((d : Dialling L) (h : Option (List ℕ)) →
-            Same (world_of self.new d h) (world_of self.old d h)) }
+        ensures dropped { OnErr result (Becomes (λ w. w) self.old self.new) }
     {
         match self.over.push(link) {
             Ok(()) => Ok(()),
@@ -163,10 +159,8 @@ impl<L: Drop> LinkSet<L> {
 
     /// The link of a name is over: it is taken out, where there is one.
     pub(crate) fn take_out(&mut self, name: LinkName) -> Result<(), NoMemory>
-        ensures over { OnOk result ((d : Dialling L) (h : Option (List ℕ)) (l : L) → link_in self.old name ≡ Some l →
-            Same (world_of self.new d h) (ends name l (world_of self.old d h))) }
-        ensures dropped { OnErr result ((d : Dialling L) (h : Option (List ℕ)) →
-            Same (world_of self.new d h) (with_link name None (world_of self.old d h))) }
+        ensures over { OnOk result ((l : L) → link_in self.old name ≡ Some l → Becomes (ends name l) self.old self.new) }
+        ensures dropped { OnErr result (Becomes (with_link name None) self.old self.new) }
     {
         match self.replace(name, None) {
             Some(link) => self.end(link),
@@ -176,10 +170,8 @@ impl<L: Drop> LinkSet<L> {
 
     /// Something is new of a link.
     pub(crate) fn note(&mut self, link: LinkName, change: Change) -> Result<(), NoMemory>
-        ensures news { OnOk result ((d : Dialling L) (h : Option (List ℕ)) →
-            Same (world_of self.new d h) (with_news link change (world_of self.old d h))) }
-        ensures missed { OnErr result ((d : Dialling L) (h : Option (List ℕ)) →
-            Same (world_of self.new d h) (world_of self.old d h)) }
+        ensures news { OnOk result (Becomes (with_news link change) self.old self.new) }
+        ensures missed { OnErr result (Becomes (λ w. w) self.old self.new) }
     {
         match self.waiting.push_back(News { link, change }) {
             Ok(()) => Ok(()),
@@ -189,8 +181,7 @@ impl<L: Drop> LinkSet<L> {
 
     /// What is new of a link isn't told any more.
     pub(crate) fn forget(&mut self, name: LinkName)
-        ensures { (d : Dialling L) (h : Option (List ℕ)) →
-            Same (world_of self.new d h) (forgets name (world_of self.old d h)) }
+        ensures { Becomes (forgets name) self.old self.new }
     {
         drop_of(name, &mut self.due);
         drop_of(name, &mut self.waiting);
@@ -198,8 +189,7 @@ impl<L: Drop> LinkSet<L> {
 
     /// A turn begins: what is new by now is told in it, and the links that were taken out before are dropped.
     pub(crate) fn begin_turn(&mut self, alloc: Global)
-        ensures { (d : Dialling L) (h : Option (List ℕ)) →
-            Same (world_of self.new d h) (begun (world_of self.old d h)) }
+        ensures { Becomes begun self.old self.new }
     {
         self.over.clear();
         self.due = mem::replace(&mut self.waiting, VecDeque::new(alloc));

@@ -1,15 +1,15 @@
 //! Carrying out what a node does.
 ghost use Rattle.std.specs.Prelude.{◌≡◌, ◌≢◌, ◌≤◌, Err, List, ℕ, OnErr, OnOk, Option, Some};
-ghost use Rattle.bsc_outside.specs.Faults.{HasRisen, PutsPrefix};
+ghost use Rattle.bsc_outside.specs.Faults.{PutsPrefix};
 ghost use Rattle.bsc_node.specs.declared.action.Action.TheVariants.{Dial};
-ghost use Rattle.bsc_node_run.specs.Halts.{RisesOnWriteFault};
+ghost use Rattle.bsc_node_run.specs.Halts.{CountsWrites, RisesOnWriteFault};
 ghost use Rattle.bsc_node_run.specs.declared.halt.Halt.{Halt as HaltType};
 ghost use Rattle.bsc_node_run.specs.Lines.{delivered_line, note_line};
 ghost use Rattle.bsc_node_run.specs.declared.news.Change.TheVariants.{Lost};
 ghost use Rattle.bsc_node_run.specs.Performing.{Carries, Closes, Dials, Does, IsClosed, Puts, Refuses, Takes, Tells};
 ghost use Rattle.bsc_node_run.specs.Performing.{Writes, is_end, kind_of};
 ghost use Rattle.bsc_node_run.specs.Stopping.{Breaks, ClosesPart, DoesPart, IsOut, PutsPart, RefusesPart, WritesPart};
-ghost use Rattle.bsc_node_run.specs.Worlds.{Dialling, Same, dialling, ends, link_in, with_news, with_over, world_of};
+ghost use Rattle.bsc_node_run.specs.Worlds.{Becomes, Dialling, Same, Undergoes, dialling, ends, link_in, with_news, with_over, world_of};
 ghost use Rattle.std.specs.Io.KnownBytes.{Appends};
 
 use crate::halt::Halt;
@@ -60,8 +60,7 @@ fn dial<L: Link + Drop, D: Dialer<L>>(
 
 /// The link that arrived gets a name.
 fn take<L: Link + Drop>(set: &mut LinkSet<L>, name: LinkName)
-    ensures { (d : Dialling L) (h : Option (List ℕ)) →
-        Takes name set.old.arrived (world_of set.old d h) (world_of set.new d h) }
+    ensures { Undergoes (Takes name set.old.arrived) set.old set.new }
 {
     match set.take_arrived() {
         Some(link) => {
@@ -78,10 +77,8 @@ fn close_link<L: Link + Drop>(
     link: L,
     closing: Closing,
 ) -> Result<(), NoMemory>
-    ensures closes { OnOk result ((d : Dialling L) (h : Option (List ℕ)) →
-        (m : L) × IsClosed L.talk closing link m × Same (world_of set.new d h) (with_over m (world_of set.old d h))) }
-    ensures part { OnErr result ((d : Dialling L) (h : Option (List ℕ)) →
-        (m : L) × IsClosed L.talk closing link m × Same (world_of set.new d h) (world_of set.old d h)) }
+    ensures closes { OnOk result (Undergoes (λ w v. (m : L) × IsClosed L.talk closing link m × Same v (with_over m w)) set.old set.new) }
+    ensures part { OnErr result (Undergoes (λ w v. (m : L) × IsClosed L.talk closing link m × Same v w) set.old set.new) }
 {
     let mut link = link;
     let _ = link.close(alloc, closing.code, closing.reason.text());
@@ -94,10 +91,8 @@ fn refuse<L: Link + Drop>(
     set: &mut LinkSet<L>,
     closing: Closing,
 ) -> Result<(), NoMemory>
-    ensures refuses { OnOk result ((d : Dialling L) (h : Option (List ℕ)) →
-        Refuses L.talk closing set.old.arrived (world_of set.old d h) (world_of set.new d h)) }
-    ensures part { OnErr result ((d : Dialling L) (h : Option (List ℕ)) →
-        RefusesPart L.talk closing set.old.arrived (world_of set.old d h) (world_of set.new d h)) }
+    ensures refuses { OnOk result (Undergoes (Refuses L.talk closing set.old.arrived) set.old set.new) }
+    ensures part { OnErr result (Undergoes (RefusesPart L.talk closing set.old.arrived) set.old set.new) }
 {
     match set.take_arrived() {
         Some(link) => close_link(alloc, set, link, closing),
@@ -107,10 +102,8 @@ fn refuse<L: Link + Drop>(
 
 /// The link of a name is lost.
 fn lose<L: Link + Drop>(set: &mut LinkSet<L>, name: LinkName) -> Result<(), NoMemory>
-    ensures lost { OnOk result ((d : Dialling L) (h : Option (List ℕ)) (l : L) → link_in set.old name ≡ Some l →
-        Same (world_of set.new d h) (with_news name Lost (ends name l (world_of set.old d h)))) }
-    ensures part { OnErr result ((d : Dialling L) (h : Option (List ℕ)) (l : L) → link_in set.old name ≡ Some l →
-        IsOut name l (world_of set.old d h) (world_of set.new d h)) }
+    ensures lost { OnOk result ((l : L) → link_in set.old name ≡ Some l → Becomes (λ w. with_news name Lost (ends name l w)) set.old set.new) }
+    ensures part { OnErr result ((l : L) → link_in set.old name ≡ Some l → Undergoes (IsOut name l) set.old set.new) }
 {
     set.take_out(name)?;
     set.note(name, Change::Lost)
@@ -123,10 +116,8 @@ fn put<L: Link + Drop>(
     name: LinkName,
     octets: &[u8],
 ) -> Result<(), NoMemory>
-    ensures puts { OnOk result ((d : Dialling L) (h : Option (List ℕ)) →
-        Puts L.talk name octets.now (link_in set.old name) (world_of set.old d h) (world_of set.new d h)) }
-    ensures part { OnErr result ((d : Dialling L) (h : Option (List ℕ)) →
-        PutsPart L.talk name octets.now (link_in set.old name) (world_of set.old d h) (world_of set.new d h)) }
+    ensures puts { OnOk result (Undergoes (Puts L.talk name octets.now (link_in set.old name)) set.old set.new) }
+    ensures part { OnErr result (Undergoes (PutsPart L.talk name octets.now (link_in set.old name)) set.old set.new) }
 {
     match set.put(alloc, name, octets) {
         Ok(()) => Ok(()),
@@ -142,10 +133,8 @@ fn close<L: Link + Drop>(
     name: LinkName,
     closing: Closing,
 ) -> Result<(), NoMemory>
-    ensures closes { OnOk result ((d : Dialling L) (h : Option (List ℕ)) →
-        Closes L.talk name closing (link_in set.old name) (world_of set.old d h) (world_of set.new d h)) }
-    ensures part { OnErr result ((d : Dialling L) (h : Option (List ℕ)) →
-        ClosesPart L.talk name closing (link_in set.old name) (world_of set.old d h) (world_of set.new d h)) }
+    ensures closes { OnOk result (Undergoes (Closes L.talk name closing (link_in set.old name)) set.old set.new) }
+    ensures part { OnErr result (Undergoes (ClosesPart L.talk name closing (link_in set.old name)) set.old set.new) }
 {
     set.forget(name);
     match set.replace(name, None) {
@@ -158,9 +147,7 @@ fn close<L: Link + Drop>(
 fn write<K: Sink>(sink: &mut K, text: &[u8]) -> Result<(), Halt>
     ensures writes { OnOk result (Appends (K.held sink.old) (K.held sink.new) text.now) }
     ensures part { OnErr result (PutsPrefix (K.held sink.old) (K.held sink.new) text.now) }
-    ensures failed { RisesOnWriteFault result (K.faults sink.old) (K.faults sink.new) }
-    ensures later { K.faults sink.old ≤ K.faults sink.new }
-    ensures accepts { result ≢ Err HaltType.AcceptFault }
+    ensures counts { CountsWrites result (K.faults sink.old) (K.faults sink.new) }
 {
     match sink.write(text) {
         Ok(()) => Ok(()),
@@ -172,9 +159,7 @@ fn write<K: Sink>(sink: &mut K, text: &[u8]) -> Result<(), Halt>
 fn deliver<K: Sink>(alloc: Global, sink: &mut K, delivered: &Delivered) -> Result<(), Halt>
     ensures writes { OnOk result (Appends (K.held sink.old) (K.held sink.new) (delivered_line delivered.now)) }
     ensures part { OnErr result (PutsPrefix (K.held sink.old) (K.held sink.new) (delivered_line delivered.now)) }
-    ensures failed { RisesOnWriteFault result (K.faults sink.old) (K.faults sink.new) }
-    ensures later { K.faults sink.old ≤ K.faults sink.new }
-    ensures accepts { result ≢ Err HaltType.AcceptFault }
+    ensures counts { CountsWrites result (K.faults sink.old) (K.faults sink.new) }
 {
     let text = delivered_line(alloc, delivered)?;
     write(sink, text.as_slice())
@@ -215,9 +200,7 @@ fn tell<K: Sink, L: Link + Drop>(
         Tells L.talk note.now (world_of set.old d (K.held sink.old)) (world_of set.new d (K.held sink.new))) }
     ensures part { OnErr result ((d : Dialling L) →
         WritesPart (note_line note.now) (world_of set.old d (K.held sink.old)) (world_of set.new d (K.held sink.new))) }
-    ensures failed { RisesOnWriteFault result (K.faults sink.old) (K.faults sink.new) }
-    ensures later { K.faults sink.old ≤ K.faults sink.new }
-    ensures accepts { result ≢ Err HaltType.AcceptFault }
+    ensures counts { CountsWrites result (K.faults sink.old) (K.faults sink.new) }
 {
     let text = note_line(alloc, note)?;
     write(sink, text.as_slice())?;
@@ -239,9 +222,7 @@ fn carry_out<K: Sink, L: Link + Drop, D: Dialer<L>>(
     ensures part { OnErr result (DoesPart L.talk action.now
         (world_of set.old (dialling D.calls D.left D.came D.faults dialer.old) (K.held sink.old))
         (world_of set.new (dialling D.calls D.left D.came D.faults dialer.new) (K.held sink.new))) }
-    ensures failed { RisesOnWriteFault result (K.faults sink.old) (K.faults sink.new) }
-    ensures later { K.faults sink.old ≤ K.faults sink.new }
-    ensures accepts { result ≢ Err HaltType.AcceptFault }
+    ensures counts { CountsWrites result (K.faults sink.old) (K.faults sink.new) }
 {
     match action {
         Action::Dial(name, uri) => dial(alloc, set, dialer, *name, uri.as_slice())?,

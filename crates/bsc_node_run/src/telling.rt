@@ -1,10 +1,10 @@
 //! Telling a node what came, and carrying out what it does.
-ghost use Rattle.std.specs.Prelude.{◌≡◌, ◌≢◌, ◌<◌, ◌≤◌, ◌^◌, true, Err, IfOk, OnErr, OnOk, IsTrue};
+ghost use Rattle.std.specs.Prelude.{◌≡◌, ◌<◌, ◌^◌, true, IfOk, OnErr, OnOk, IsTrue};
 ghost use Rattle.bsc_node.specs.declared.node_event.NodeEvent.{NodeEvent as NodeEventType};
 ghost use Rattle.bsc_node.specs.Conditions.{brings_word};
-ghost use Rattle.bsc_node_run.specs.Halts.{RisesOnWriteFault};
-ghost use Rattle.bsc_node_run.specs.declared.halt.Halt.{Halt as HaltType};
-ghost use Rattle.bsc_node_run.specs.Drawing.{Draws, GoesDrawing, at_rest};
+ghost use Rattle.bsc_node_run.specs.Drawing.{Draws, awaiting};
+ghost use Rattle.bsc_node_run.specs.Halts.{CountsWrites};
+ghost use Rattle.bsc_node_run.specs.Handling.{BrokeOff, IsSameHand, Went};
 ghost use Rattle.bsc_node_run.specs.Turning.{GivesWord, Gives, draws};
 ghost use Rattle.bsc_node_run.specs.Performing.{Carries, is_draw};
 ghost use Rattle.bsc_node_run.specs.Stopping.{GiveStops, StopsAt};
@@ -12,6 +12,7 @@ ghost use Rattle.bsc_node_run.specs.Worlds.{dialling, world_of};
 ghost use Rattle.bsc_node_run.specs.Requests.{has_octets};
 
 use crate::halt::Halt;
+use crate::in_hand::InHand;
 use crate::link_set::LinkSet;
 use crate::node_core::Core;
 use crate::performing::perform;
@@ -73,68 +74,56 @@ fn tell<N: Core, K: Sink, L: Link + Drop, D: Dialer<L>>(
     ensures stops { OnErr result (StopsAt N.goes L.talk at.time event.now node.old
         (world_of set.old (dialling D.calls D.left D.came D.faults dialer.old) (K.held sink.old))
         (world_of set.new (dialling D.calls D.left D.came D.faults dialer.new) (K.held sink.new))) }
-    ensures failed { RisesOnWriteFault result (K.faults sink.old) (K.faults sink.new) }
-    ensures later { K.faults sink.old ≤ K.faults sink.new }
-    ensures accepts { result ≢ Err HaltType.AcceptFault }
+    ensures counts { CountsWrites result (K.faults sink.old) (K.faults sink.new) }
 {
     let actions = node.event(at.alloc, at.time, event)?;
     perform(at.alloc, actions.as_slice(), set, sink, dialer)?;
     Ok(actions)
 }
 
-/// Draws a random word for a node, and tells it that.
-fn tell_word<N: Core, K: Sink, W: Words, L: Link + Drop, D: Dialer<L>>(
-    at: TurnContext,
-    node: &mut N,
-    set: &mut LinkSet<L>,
-    sink: &mut K,
-    random: &mut W,
-    dialer: &mut D,
-) -> Result<(), Halt>
-    ensures answers { OnOk result (GivesWord (GoesDrawing N.goes (Draws W.gives W.faults)) L.talk at.time true
-        (record { node = node.old; words = random.old; awaits = true })
-        (world_of set.old (dialling D.calls D.left D.came D.faults dialer.old) (K.held sink.old))
-        (at_rest node.new random.new) (world_of set.new (dialling D.calls D.left D.came D.faults dialer.new) (K.held sink.new))) }
-    ensures stops { OnErr result ((word : NodeEventType) × IsTrue (brings_word word) × StopsAt (GoesDrawing N.goes (Draws W.gives W.faults)) L.talk at.time word
-        (record { node = node.old; words = random.old; awaits = true })
-        (world_of set.old (dialling D.calls D.left D.came D.faults dialer.old) (K.held sink.old))
-        (world_of set.new (dialling D.calls D.left D.came D.faults dialer.new) (K.held sink.new))) }
-    ensures failed { RisesOnWriteFault result (K.faults sink.old) (K.faults sink.new) }
-    ensures later { K.faults sink.old ≤ K.faults sink.new }
-    ensures accepts { result ≢ Err HaltType.AcceptFault }
-{
-    let word = draw(random);
-    match tell(at, node, set, sink, dialer, &word) {
-        Ok(_) => Ok(()),
-        Err(halt) => Err(halt),
+impl<N: Core, K: Sink, W: Words, L: Link + Drop, D: Dialer<L>> InHand<
+    '_,
+    '_,
+    '_,
+    '_,
+    '_,
+    N,
+    K,
+    W,
+    L,
+    D,
+> {
+    /// Draws a random word for the node, and tells it that.
+    fn tell_word(&mut self, at: TurnContext) -> Result<(), Halt>
+        ensures answers { OnOk result (Went N.goes W.gives W.faults L.talk (dialling D.calls D.left D.came D.faults) K.held
+            (λ goes talk n. GivesWord goes talk at.time true (awaiting n)) self.old self.new) }
+        ensures stops { OnErr result (BrokeOff N.goes W.gives W.faults L.talk (dialling D.calls D.left D.came D.faults) K.held
+            (λ goes talk n w v. (word : NodeEventType) × IsTrue (brings_word word) × StopsAt goes talk at.time word (awaiting n) w v) self.old self.new) }
+        ensures counts { CountsWrites result (K.faults self.old.sink.now) (K.faults self.new.sink.now) }
+        ensures same { IsSameHand self.old self.new }
+    {
+        let word = draw(self.random);
+        match tell(at, self.node, self.set, self.sink, self.dialer, &word) {
+            Ok(_) => Ok(()),
+            Err(halt) => Err(halt),
+        }
     }
-}
 
-/// Tells a node what came, and carries out what it does. Where it draws a random word, that is what it is told next.
-pub(crate) fn dispatch<N: Core, K: Sink, W: Words, L: Link + Drop, D: Dialer<L>>(
-    at: TurnContext,
-    node: &mut N,
-    set: &mut LinkSet<L>,
-    sink: &mut K,
-    random: &mut W,
-    dialer: &mut D,
-    event: &NodeEvent,
-) -> Result<(), Halt>
-    requires { has_octets event.now ≡ true }
-    ensures gives { OnOk result (Gives (GoesDrawing N.goes (Draws W.gives W.faults)) L.talk at.time event.now
-        (at_rest node.old random.old) (world_of set.old (dialling D.calls D.left D.came D.faults dialer.old) (K.held sink.old))
-        (at_rest node.new random.new) (world_of set.new (dialling D.calls D.left D.came D.faults dialer.new) (K.held sink.new))) }
-    ensures stops { OnErr result (GiveStops (GoesDrawing N.goes (Draws W.gives W.faults)) L.talk at.time event.now
-        (at_rest node.old random.old) (world_of set.old (dialling D.calls D.left D.came D.faults dialer.old) (K.held sink.old))
-        (world_of set.new (dialling D.calls D.left D.came D.faults dialer.new) (K.held sink.new))) }
-    ensures failed { RisesOnWriteFault result (K.faults sink.old) (K.faults sink.new) }
-    ensures later { K.faults sink.old ≤ K.faults sink.new }
-    ensures accepts { result ≢ Err HaltType.AcceptFault }
-{
-    let actions = tell(at, node, set, sink, dialer, event)?;
-    if draws(actions.as_slice()) {
-        tell_word(at, node, set, sink, random, dialer)
-    } else {
-        Ok(())
+    /// Tells the node what came, and carries out what it does. Where it draws a random word, that is what it is told next.
+    pub(crate) fn dispatch(&mut self, at: TurnContext, event: &NodeEvent) -> Result<(), Halt>
+        requires { has_octets event.now ≡ true }
+        ensures gives { OnOk result (Went N.goes W.gives W.faults L.talk (dialling D.calls D.left D.came D.faults) K.held
+            (λ goes talk. Gives goes talk at.time event.now) self.old self.new) }
+        ensures stops { OnErr result (BrokeOff N.goes W.gives W.faults L.talk (dialling D.calls D.left D.came D.faults) K.held
+            (λ goes talk. GiveStops goes talk at.time event.now) self.old self.new) }
+        ensures counts { CountsWrites result (K.faults self.old.sink.now) (K.faults self.new.sink.now) }
+        ensures same { IsSameHand self.old self.new }
+    {
+        let actions = tell(at, self.node, self.set, self.sink, self.dialer, event)?;
+        if draws(actions.as_slice()) {
+            self.tell_word(at)
+        } else {
+            Ok(())
+        }
     }
 }

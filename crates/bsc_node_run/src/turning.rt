@@ -1,305 +1,82 @@
 //! One turn of a node.
-ghost use Rattle.std.specs.Prelude.{◌≡◌, ◌≢◌, ◌<◌, ◌≤◌, ◌^◌, ◌∷◌, ◌++◌, [], true, Err, IfSome, IfOk, OnErr, OnOk};
-ghost use Rattle.std.specs.Prelude.{List, ℕ, None, Option, Some};
+ghost use Rattle.std.specs.Prelude.{◌≡◌, ◌<◌, ◌≤◌, ◌^◌, ◌∷◌, [], ℕ, IfOk, OnErr, OnOk};
 ghost use Rattle.bsc_edge.specs.Told.{Grows, Stays};
-ghost use Rattle.bsc_node.specs.declared.node_event.NodeEvent.TheVariants.{Lost as LostEvent};
-ghost use Rattle.bsc_node_run.specs.Halts.{RisesOnAcceptFault, RisesOnWriteFault};
-ghost use Rattle.bsc_node_run.specs.declared.due.Due.{Due as DueType};
+ghost use Rattle.bsc_node_run.specs.Halts.{Counts, CountsWrites, RisesOnAcceptFault, RisesOnWriteFault};
+ghost use Rattle.bsc_node_run.specs.Handling.{BrokeOff, IsSameHand, Went};
 ghost use Rattle.bsc_node_run.specs.declared.halt.Halt.{Halt as HaltType};
-ghost use Rattle.bsc_node_run.specs.declared.news.News.{News as NewsType};
 ghost use Rattle.bsc_node_run.specs.Drawing.{Draws, GoesDrawing, at_rest};
 ghost use Rattle.bsc_node_run.specs.Moments.{in_hands, moment};
-ghost use Rattle.bsc_node_run.specs.Receiving.{Received};
-ghost use Rattle.bsc_node_run.specs.Requests.{has_octets};
-ghost use Rattle.bsc_node_run.specs.Stopping.{AdmitStops, EachStop, HearStops, LinesStop, Misses, NewsStop, StartStops, TurnBreaks};
-ghost use Rattle.bsc_node_run.specs.Turning.{Admits, AreDue, GivesLines, GivesNews, HearsEach, IsNotDue, LinkHears};
-ghost use Rattle.bsc_node_run.specs.Turning.{Starts, TurnsTo, event_of, names, passed_by, slots_from};
-ghost use Rattle.bsc_node_run.specs.Worlds.{Dialling, Same, admitting, dialling, ends, link_in, with_link, world_of};
+ghost use Rattle.bsc_node_run.specs.Stopping.{AdmitStops, StartStops, TurnBreaks};
+ghost use Rattle.bsc_node_run.specs.Turning.{Admits, Starts, TurnsTo, passed_by};
+ghost use Rattle.bsc_node_run.specs.Worlds.{admitting, dialling, world_of};
 
 use crate::bounds::ACCEPT_WAIT_MS;
-use crate::due::Due;
 use crate::halt::Halt;
+use crate::in_hand::InHand;
 use crate::link_set::LinkSet;
-use crate::news::{Change, News};
 use crate::node_core::Core;
 use crate::parts::NodeParts;
-use crate::telling::dispatch;
 use crate::turn_context::TurnContext;
 use crate::turn_end::TurnEnd;
 use crate::turn_start::TurnStart;
 use crate::words::Words;
-use bsc_connector::Side;
-use bsc_direct::SLOTS;
-use bsc_edge::{Acceptor, Arrived, Clock, Dialer, Incoming, Link, LinkFault};
-use bsc_node::{LinkName, NodeEvent};
-use bsc_octets::NoMemory;
+use bsc_edge::{Acceptor, Arrived, Clock, Dialer, Link, LinkFault};
+use bsc_node::NodeEvent;
 use bsc_outside::Sink;
-use std::alloc::Global;
 
-/// What a node is told of what is new.
-fn event_of(news: News) -> NodeEvent
-    ensures octets { has_octets result ≡ true }
-    ensures is { result ≡ event_of news }
-{
-    match news.change {
-        Change::Opened => NodeEvent::Opened(news.link),
-        Change::DialFailed => NodeEvent::DialFailed(news.link),
-        Change::Lost => NodeEvent::Lost(news.link),
-    }
-}
-
-/// Tells the node what is new of its links, the oldest first.
-fn give_news<N: Core, K: Sink, W: Words, L: Link + Drop, D: Dialer<L>>(
-    at: TurnContext,
-    node: &mut N,
-    set: &mut LinkSet<L>,
-    sink: &mut K,
-    random: &mut W,
-    dialer: &mut D,
-) -> Result<(), Halt>
-    ensures gives { OnOk result ((news : List NewsType) × GivesNews (GoesDrawing N.goes (Draws W.gives W.faults)) L.talk at.time news
-        (at_rest node.old random.old) (world_of set.old (dialling D.calls D.left D.came D.faults dialer.old) (K.held sink.old))
-        (at_rest node.new random.new) (world_of set.new (dialling D.calls D.left D.came D.faults dialer.new) (K.held sink.new))) }
-    ensures stops { OnErr result ((news : List NewsType) × NewsStop (GoesDrawing N.goes (Draws W.gives W.faults)) L.talk at.time news
-        (at_rest node.old random.old) (world_of set.old (dialling D.calls D.left D.came D.faults dialer.old) (K.held sink.old))
-        (world_of set.new (dialling D.calls D.left D.came D.faults dialer.new) (K.held sink.new))) }
-    ensures failed { RisesOnWriteFault result (K.faults sink.old) (K.faults sink.new) }
-    ensures later { K.faults sink.old ≤ K.faults sink.new }
-    ensures accepts { result ≢ Err HaltType.AcceptFault }
-{
-    while let Some(news) = set.due.pop_front() {
-        dispatch(at, node, set, sink, random, dialer, &event_of(news))?;
-    }
-    Ok(())
-}
-
-/// Tells the node what is to be told by now, and gives what isn't.
-fn give_due<'a, N: Core, K: Sink, W: Words, L: Link + Drop, D: Dialer<L>>(
-    at: TurnContext,
-    node: &mut N,
-    set: &mut LinkSet<L>,
-    sink: &mut K,
-    random: &mut W,
-    dialer: &mut D,
-    script: &'a [Due],
-) -> Result<&'a [Due], Halt>
-    ensures gives { IfOk result (λ rest. (lines : List DueType)
-        × (script.now ≡ lines ++ rest.now) × AreDue at.passed lines × IsNotDue at.passed rest.now
-        × GivesLines (GoesDrawing N.goes (Draws W.gives W.faults)) L.talk at.time lines
-        (at_rest node.old random.old) (world_of set.old (dialling D.calls D.left D.came D.faults dialer.old) (K.held sink.old))
-        (at_rest node.new random.new) (world_of set.new (dialling D.calls D.left D.came D.faults dialer.new) (K.held sink.new))) }
-    ensures stops { OnErr result ((lines rest : List DueType) × (script.now ≡ lines ++ rest) × AreDue at.passed lines
-        × LinesStop (GoesDrawing N.goes (Draws W.gives W.faults)) L.talk at.time lines
-        (at_rest node.old random.old) (world_of set.old (dialling D.calls D.left D.came D.faults dialer.old) (K.held sink.old))
-        (world_of set.new (dialling D.calls D.left D.came D.faults dialer.new) (K.held sink.new))) }
-    ensures failed { RisesOnWriteFault result (K.faults sink.old) (K.faults sink.new) }
-    ensures later { K.faults sink.old ≤ K.faults sink.new }
-    ensures accepts { result ≢ Err HaltType.AcceptFault }
-{
-    let mut left = script;
-    while let [due, rest @ ..] = left {
-        if at.passed < due.at {
-            return Ok(left);
+impl<N: Core, K: Sink, W: Words, L: Link + Drop, D: Dialer<L>> InHand<
+    '_,
+    '_,
+    '_,
+    '_,
+    '_,
+    N,
+    K,
+    W,
+    L,
+    D,
+> {
+    /// Asks the acceptor once, where the node accepts direct connections, and tells the node of the link that arrived.
+    #[tactic(auto, using(bsc_edge::proofs::Common::stays_same))]
+    fn admit<A: Acceptor<L>>(&mut self, at: TurnContext, acceptor: &mut A) -> Result<(), Halt>
+        ensures admits { OnOk result (Went N.goes W.gives W.faults L.talk (dialling D.calls D.left D.came D.faults) K.held
+            (λ goes talk n w m v. Admits goes talk at.time at.listens (moment n w (admitting A.left A.came A.waits acceptor.old))
+            (moment m v (admitting A.left A.came A.waits acceptor.new))) self.old self.new) }
+        ensures stops { OnErr result (BrokeOff N.goes W.gives W.faults L.talk (dialling D.calls D.left D.came D.faults) K.held
+            (λ goes talk n w v. AdmitStops goes talk at.time at.listens (moment n w (admitting A.left A.came A.waits acceptor.old))
+            (in_hands v (admitting A.left A.came A.waits acceptor.new))) self.old self.new) }
+        ensures writes { Counts HaltType.WriteFault result (K.faults self.old.sink.now) (K.faults self.new.sink.now) }
+        ensures arrivals { Counts HaltType.AcceptFault result (A.faults acceptor.old) (A.faults acceptor.new) }
+        ensures bound { Stays (A.bound acceptor.old) (A.bound acceptor.new) }
+        ensures same { IsSameHand self.old self.new }
+    {
+        if !at.listens {
+            return Ok(());
         }
-        dispatch(at, node, set, sink, random, dialer, &due.event)?;
-        left = rest;
-    }
-    Ok(left)
-}
-
-/// The link of a name is lost: what the node is told of it.
-fn lose<L: Link + Drop>(set: &mut LinkSet<L>, name: LinkName) -> Result<Option<NodeEvent>, NoMemory>
-    ensures octets { IfOk result (λ e. IfSome e (λ event. has_octets event ≡ true)) }
-    ensures ended { IfOk result (λ e. (e ≡ Some (LostEvent name)) × ((d : Dialling L) (h : Option (List ℕ)) (l : L) →
-        link_in set.old name ≡ Some l → Same (world_of set.new d h) (ends name l (world_of set.old d h)))) }
-    ensures dropped { OnErr result ((d : Dialling L) (h : Option (List ℕ)) →
-        Same (world_of set.new d h) (with_link name None (world_of set.old d h))) }
-{
-    set.take_out(name)?;
-    Ok(Some(NodeEvent::Lost(name)))
-}
-
-/// Receives once on the link of a name: what the node is told of it, where something came.
-fn receive<L: Link + Drop>(
-    alloc: Global,
-    set: &mut LinkSet<L>,
-    name: LinkName,
-) -> Result<Option<NodeEvent>, NoMemory>
-    ensures octets { IfOk result (λ e. IfSome e (λ event. has_octets event ≡ true)) }
-    ensures received { IfOk result (λ e. (d : Dialling L) (h : Option (List ℕ)) →
-        Received L.talk name (link_in set.old name) e (world_of set.old d h) (world_of set.new d h)) }
-    ensures missed { OnErr result ((d : Dialling L) (h : Option (List ℕ)) →
-        Misses L.talk name (link_in set.old name) (world_of set.old d h) (world_of set.new d h)) }
-{
-    match set.receive(alloc, name) {
-        Some(Ok(Incoming::Message(octets))) => Ok(Some(NodeEvent::Came(name, octets))),
-        Some(Ok(Incoming::Text)) => Ok(Some(NodeEvent::CameText(name))),
-        Some(Ok(Incoming::Quiet)) => Ok(None),
-        Some(Ok(Incoming::Closed)) => lose(set, name),
-        Some(Err(LinkFault::Failed)) => lose(set, name),
-        Some(Err(LinkFault::NoMemory)) => Err(NoMemory),
-        None => Ok(None),
-    }
-}
-
-/// Receives once on the link of a name, where the node was told that it is open, and tells the node what came.
-fn hear<N: Core, K: Sink, W: Words, L: Link + Drop, D: Dialer<L>>(
-    at: TurnContext,
-    node: &mut N,
-    set: &mut LinkSet<L>,
-    sink: &mut K,
-    random: &mut W,
-    dialer: &mut D,
-    name: LinkName,
-) -> Result<(), Halt>
-    ensures hears { OnOk result (LinkHears (GoesDrawing N.goes (Draws W.gives W.faults)) L.talk at.time name
-        (at_rest node.old random.old) (world_of set.old (dialling D.calls D.left D.came D.faults dialer.old) (K.held sink.old))
-        (at_rest node.new random.new) (world_of set.new (dialling D.calls D.left D.came D.faults dialer.new) (K.held sink.new))) }
-    ensures stops { OnErr result (HearStops (GoesDrawing N.goes (Draws W.gives W.faults)) L.talk at.time name
-        (at_rest node.old random.old) (world_of set.old (dialling D.calls D.left D.came D.faults dialer.old) (K.held sink.old))
-        (world_of set.new (dialling D.calls D.left D.came D.faults dialer.new) (K.held sink.new))) }
-    ensures failed { RisesOnWriteFault result (K.faults sink.old) (K.faults sink.new) }
-    ensures later { K.faults sink.old ≤ K.faults sink.new }
-    ensures accepts { result ≢ Err HaltType.AcceptFault }
-{
-    if !set.is_open(name) {
-        return Ok(());
-    }
-    match receive(at.alloc, set, name)? {
-        Some(event) => dispatch(at, node, set, sink, random, dialer, &event),
-        None => Ok(()),
-    }
-}
-
-/// Receives once on each open link in a slot.
-fn hear_slots<N: Core, K: Sink, W: Words, L: Link + Drop, D: Dialer<L>>(
-    at: TurnContext,
-    node: &mut N,
-    set: &mut LinkSet<L>,
-    sink: &mut K,
-    random: &mut W,
-    dialer: &mut D,
-) -> Result<(), Halt>
-    ensures hears { OnOk result (HearsEach (GoesDrawing N.goes (Draws W.gives W.faults)) L.talk at.time (slots_from SLOTS 0)
-        (at_rest node.old random.old) (world_of set.old (dialling D.calls D.left D.came D.faults dialer.old) (K.held sink.old))
-        (at_rest node.new random.new) (world_of set.new (dialling D.calls D.left D.came D.faults dialer.new) (K.held sink.new))) }
-    ensures stops { OnErr result (EachStop (GoesDrawing N.goes (Draws W.gives W.faults)) L.talk at.time (slots_from SLOTS 0)
-        (at_rest node.old random.old) (world_of set.old (dialling D.calls D.left D.came D.faults dialer.old) (K.held sink.old))
-        (world_of set.new (dialling D.calls D.left D.came D.faults dialer.new) (K.held sink.new))) }
-    ensures failed { RisesOnWriteFault result (K.faults sink.old) (K.faults sink.new) }
-    ensures later { K.faults sink.old ≤ K.faults sink.new }
-    ensures accepts { result ≢ Err HaltType.AcceptFault }
-{
-    for k in 0..SLOTS {
-        hear(at, node, set, sink, random, dialer, LinkName::Direct(k))?;
-    }
-    Ok(())
-}
-
-/// Receives once on each open link: those of the hubs first, and then those in the slots.
-fn hear_all<N: Core, K: Sink, W: Words, L: Link + Drop, D: Dialer<L>>(
-    at: TurnContext,
-    node: &mut N,
-    set: &mut LinkSet<L>,
-    sink: &mut K,
-    random: &mut W,
-    dialer: &mut D,
-) -> Result<(), Halt>
-    ensures hears { OnOk result (HearsEach (GoesDrawing N.goes (Draws W.gives W.faults)) L.talk at.time names
-        (at_rest node.old random.old) (world_of set.old (dialling D.calls D.left D.came D.faults dialer.old) (K.held sink.old))
-        (at_rest node.new random.new) (world_of set.new (dialling D.calls D.left D.came D.faults dialer.new) (K.held sink.new))) }
-    ensures stops { OnErr result (EachStop (GoesDrawing N.goes (Draws W.gives W.faults)) L.talk at.time names
-        (at_rest node.old random.old) (world_of set.old (dialling D.calls D.left D.came D.faults dialer.old) (K.held sink.old))
-        (world_of set.new (dialling D.calls D.left D.came D.faults dialer.new) (K.held sink.new))) }
-    ensures failed { RisesOnWriteFault result (K.faults sink.old) (K.faults sink.new) }
-    ensures later { K.faults sink.old ≤ K.faults sink.new }
-    ensures accepts { result ≢ Err HaltType.AcceptFault }
-{
-    hear(
-        at,
-        node,
-        set,
-        sink,
-        random,
-        dialer,
-        LinkName::Hub(Side::Primary),
-    )?;
-    hear(
-        at,
-        node,
-        set,
-        sink,
-        random,
-        dialer,
-        LinkName::Hub(Side::Failover),
-    )?;
-    hear_slots(at, node, set, sink, random, dialer)
-}
-
-/// Asks the acceptor once, where the node accepts direct connections, and tells the node of the link that arrived.
-#[tactic(auto, using(bsc_edge::proofs::Common::stays_same))]
-fn admit<N: Core, K: Sink, W: Words, L: Link + Drop, A: Acceptor<L>, D: Dialer<L>>(
-    at: TurnContext,
-    node: &mut N,
-    set: &mut LinkSet<L>,
-    sink: &mut K,
-    random: &mut W,
-    acceptor: &mut A,
-    dialer: &mut D,
-) -> Result<(), Halt>
-    ensures admits { OnOk result (Admits (GoesDrawing N.goes (Draws W.gives W.faults)) L.talk at.time at.listens
-        (moment (at_rest node.old random.old) (world_of set.old (dialling D.calls D.left D.came D.faults dialer.old) (K.held sink.old))
-        (admitting A.left A.came A.waits acceptor.old))
-        (moment (at_rest node.new random.new) (world_of set.new (dialling D.calls D.left D.came D.faults dialer.new) (K.held sink.new))
-        (admitting A.left A.came A.waits acceptor.new))) }
-    ensures stops { OnErr result (AdmitStops (GoesDrawing N.goes (Draws W.gives W.faults)) L.talk at.time at.listens
-        (moment (at_rest node.old random.old) (world_of set.old (dialling D.calls D.left D.came D.faults dialer.old) (K.held sink.old))
-        (admitting A.left A.came A.waits acceptor.old))
-        (in_hands (world_of set.new (dialling D.calls D.left D.came D.faults dialer.new) (K.held sink.new))
-        (admitting A.left A.came A.waits acceptor.new))) }
-    ensures failed { RisesOnWriteFault result (K.faults sink.old) (K.faults sink.new) }
-    ensures later { K.faults sink.old ≤ K.faults sink.new }
-    ensures accept { RisesOnAcceptFault result (A.faults acceptor.old) (A.faults acceptor.new) }
-    ensures arrivals { A.faults acceptor.old ≤ A.faults acceptor.new }
-    ensures bound { Stays (A.bound acceptor.old) (A.bound acceptor.new) }
-{
-    if !at.listens {
-        return Ok(());
-    }
-    match acceptor.next(at.alloc, ACCEPT_WAIT_MS) {
-        Ok(Arrived::Link(link)) => {
-            set.arrived = Some(link);
-            dispatch(at, node, set, sink, random, dialer, &NodeEvent::Arrived)
+        match acceptor.next(at.alloc, ACCEPT_WAIT_MS) {
+            Ok(Arrived::Link(link)) => {
+                self.set.arrived = Some(link);
+                self.dispatch(at, &NodeEvent::Arrived)
+            }
+            Ok(Arrived::Quiet) => Ok(()),
+            Err(LinkFault::Failed) => Err(Halt::AcceptFault),
+            Err(LinkFault::NoMemory) => Err(Halt::NoMemory),
         }
-        Ok(Arrived::Quiet) => Ok(()),
-        Err(LinkFault::Failed) => Err(Halt::AcceptFault),
-        Err(LinkFault::NoMemory) => Err(Halt::NoMemory),
     }
-}
 
-/// Tells the node that it starts, where it has no start yet.
-fn begin<N: Core, K: Sink, W: Words, L: Link + Drop, D: Dialer<L>>(
-    at: TurnContext,
-    node: &mut N,
-    set: &mut LinkSet<L>,
-    sink: &mut K,
-    random: &mut W,
-    dialer: &mut D,
-    start: Option<u64>,
-) -> Result<(), Halt>
-    ensures starts { OnOk result (Starts (GoesDrawing N.goes (Draws W.gives W.faults)) L.talk at.time start
-        (at_rest node.old random.old) (world_of set.old (dialling D.calls D.left D.came D.faults dialer.old) (K.held sink.old))
-        (at_rest node.new random.new) (world_of set.new (dialling D.calls D.left D.came D.faults dialer.new) (K.held sink.new))) }
-    ensures stops { OnErr result (StartStops (GoesDrawing N.goes (Draws W.gives W.faults)) L.talk at.time start
-        (at_rest node.old random.old) (world_of set.old (dialling D.calls D.left D.came D.faults dialer.old) (K.held sink.old))
-        (world_of set.new (dialling D.calls D.left D.came D.faults dialer.new) (K.held sink.new))) }
-    ensures failed { RisesOnWriteFault result (K.faults sink.old) (K.faults sink.new) }
-    ensures later { K.faults sink.old ≤ K.faults sink.new }
-    ensures accepts { result ≢ Err HaltType.AcceptFault }
-{
-    match start {
-        None => dispatch(at, node, set, sink, random, dialer, &NodeEvent::Start),
-        Some(_) => Ok(()),
+    /// Tells the node that it starts, where it has no start yet.
+    fn begin(&mut self, at: TurnContext, start: Option<u64>) -> Result<(), Halt>
+        ensures starts { OnOk result (Went N.goes W.gives W.faults L.talk (dialling D.calls D.left D.came D.faults) K.held
+            (λ goes talk. Starts goes talk at.time start) self.old self.new) }
+        ensures stops { OnErr result (BrokeOff N.goes W.gives W.faults L.talk (dialling D.calls D.left D.came D.faults) K.held
+            (λ goes talk. StartStops goes talk at.time start) self.old self.new) }
+        ensures counts { CountsWrites result (K.faults self.old.sink.now) (K.faults self.new.sink.now) }
+        ensures same { IsSameHand self.old self.new }
+    {
+        match start {
+            None => self.dispatch(at, &NodeEvent::Start),
+            Some(_) => Ok(()),
+        }
     }
 }
 
@@ -378,43 +155,18 @@ pub fn node_turn<
         listens: from.listens,
     };
     set.begin_turn(from.alloc);
-    begin(
-        at,
+    let mut hand = InHand {
         node,
         set,
         sink,
-        &mut parts.random,
-        &mut parts.dialer,
-        from.start,
-    )?;
-    dispatch(
-        at,
-        node,
-        set,
-        sink,
-        &mut parts.random,
-        &mut parts.dialer,
-        &NodeEvent::Tick,
-    )?;
-    give_news(at, node, set, sink, &mut parts.random, &mut parts.dialer)?;
-    let left = give_due(
-        at,
-        node,
-        set,
-        sink,
-        &mut parts.random,
-        &mut parts.dialer,
-        from.script,
-    )?;
-    hear_all(at, node, set, sink, &mut parts.random, &mut parts.dialer)?;
-    admit(
-        at,
-        node,
-        set,
-        sink,
-        &mut parts.random,
-        acceptor,
-        &mut parts.dialer,
-    )?;
+        random: &mut parts.random,
+        dialer: &mut parts.dialer,
+    };
+    hand.begin(at, from.start)?;
+    hand.dispatch(at, &NodeEvent::Tick)?;
+    hand.give_news(at)?;
+    let left = hand.give_due(at, from.script)?;
+    hand.hear_all(at)?;
+    hand.admit(at, acceptor)?;
     Ok(TurnEnd { time: now, left })
 }

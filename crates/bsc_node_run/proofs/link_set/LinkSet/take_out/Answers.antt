@@ -7,7 +7,7 @@ use Rattle.std.proofs.lemmas.Result.{on_err_weaker as on_err, on_ok_weaker as on
 
 pub returns-in-Some-clause-over : goal.returns-in-Some-clause-over
 returns-in-Some-clause-over g c = on_ok c.end.result
-    (λ k d h l e. subst (λ m. Same (world_of c.end.new.self d h) (ends c.args.name m (world_of c.args.self.now d h))) (same_Some c.in-Some.link l (c.in-Some.ensures.old ∙ e))
+    (λ k l e d h. subst (λ m. Same (world_of c.end.new.self d h) (ends c.args.name m (world_of c.args.self.now d h))) (same_Some c.in-Some.link l (c.in-Some.ensures.old ∙ e))
     (ends_so (world_of c.args.self.now d h) (world_of c.replace.new.self d h) (world_of c.end.new.self d h) c.args.name c.in-Some.link (c.in-Some.ensures.new d h) (k d h)))
     c.end.ensures.over
 
@@ -17,4 +17,4 @@ returns-in-Some-clause-dropped g c = on_err c.end.result
     c.end.ensures.dropped
 
 pub returns-in-None-clause-over : goal.returns-in-None-clause-over
-returns-in-None-clause-over g c d h l e = absurd (none-some l (c.in-None.ensures.old ∙ e))
+returns-in-None-clause-over g c l e d h = absurd (none-some l (c.in-None.ensures.old ∙ e))

@@ -5,7 +5,7 @@ use Rattle.bsc_node.specs.declared.node_event.NodeEvent.TheVariants.{Came, CameT
 use Rattle.bsc_node_run.specs.Worlds.{Same, ends, link_in, with_link, world_of}
 use Rattle.bsc_node_run.proofs.Worlds.{ends_again, link_again, same_then}
 use Rattle.bsc_node_run.proofs.Turns.{missed_last, missed_memory, received, unheard}
-use Rattle.bsc_node_run.proofs.turning.receive.Goals as goal
+use Rattle.bsc_node_run.proofs.hearing.receive.Goals as goal
 use Rattle.std.proofs.lemmas.Result.{on_err_weaker as on_err}
 use Rattle.bsc_lemmas.proofs.Numbers.{if_ok_maps as on_if}
 
@@ -34,7 +34,7 @@ returns-in-Some-Ok-Closed-clause-received g c = on_if c.lose.result
     (λ e k d h. received g.L.Link.talk c.args.name (link_in c.args.set.now c.args.name) (link_in c.receive.new.self c.args.name) (Ok Closed) e (world_of c.args.set.now d h)
     (world_of c.lose.new.set d h)
     tt (rw c.in-Some-Ok-Closed.field-0-0-is at (rw c.in-Some-Ok-Closed.field-0-is at c.in-Some-Ok-Closed.ensures.heard)) k.0
-    (λ l after. same_then (world_of c.lose.new.set d h) (ends c.args.name l (world_of c.receive.new.self d h)) (ends c.args.name l (world_of c.args.set.now d h)) (k.1 d h l after)
+    (λ l after. same_then (world_of c.lose.new.set d h) (ends c.args.name l (world_of c.receive.new.self d h)) (ends c.args.name l (world_of c.args.set.now d h)) (k.1 l after d h)
     (ends_again (world_of c.args.set.now d h) (world_of c.receive.new.self d h) c.args.name (link_in c.receive.new.self c.args.name) l (c.receive.ensures.new d h))))
     c.lose.ensures.ended
 
@@ -43,7 +43,7 @@ returns-in-Some-Err-Failed-clause-received g c = on_if c.lose-in-Some-Err-Failed
     (λ e k d h. received g.L.Link.talk c.args.name (link_in c.args.set.now c.args.name) (link_in c.receive.new.self c.args.name) (Err Failed) e (world_of c.args.set.now d h)
     (world_of c.lose-in-Some-Err-Failed.new.set d h)
     tt (rw c.in-Some-Err-Failed.field-0-0-is at (rw c.in-Some-Err-Failed.field-0-is at c.in-Some-Err-Failed.ensures.heard)) k.0
-    (λ l after. same_then (world_of c.lose-in-Some-Err-Failed.new.set d h) (ends c.args.name l (world_of c.receive.new.self d h)) (ends c.args.name l (world_of c.args.set.now d h)) (k.1 d h l after)
+    (λ l after. same_then (world_of c.lose-in-Some-Err-Failed.new.set d h) (ends c.args.name l (world_of c.receive.new.self d h)) (ends c.args.name l (world_of c.args.set.now d h)) (k.1 l after d h)
     (ends_again (world_of c.args.set.now d h) (world_of c.receive.new.self d h) c.args.name (link_in c.receive.new.self c.args.name) l (c.receive.ensures.new d h))))
     c.lose-in-Some-Err-Failed.ensures.ended
 
