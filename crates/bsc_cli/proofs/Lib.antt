@@ -1,7 +1,6 @@
-pub mod Simple
 pub mod Found
 pub mod Steps
-pub mod Plain
-pub mod Help
-pub mod Taken
-pub mod WorkedWords
+pub mod Lists
+pub mod Ways
+pub mod Alone
+pub mod Commands

@@ -1,6 +1,6 @@
 -- How `clap` walks over words, one at a time, where a command has no subcommands.
--- It serves the clauses of `listed_words_are_taken` and `plain_words_are_listed`.
-use Rattle.std.proofs.Common.{◌≡◌, ◌∙◌, ℕ, false, List, [], ◌∷◌, fold, Option, None, is_some, refl, ap, ap₂}
+-- It serves clauses of functions of `laws` and `reading`.
+use Rattle.std.proofs.Common.{◌≡◌, ◌∙◌, ℕ, false, List, [], ◌∷◌, fold, Option, Some, None, is_some, refl, ap, ap₂}
 use Rattle.clap.specs.Words.{App, Kinds, Row, Rule, Shape, Text}
 use Rattle.clap.specs.Lexer.{strip_byte}
 use Rattle.clap.specs.Kinds.{or_else}
@@ -8,8 +8,7 @@ use Rattle.clap.specs.Walk.{Held, Walk, arg_by_id, arg_by_index, finished, idle,
 use Rattle.clap.specs.Simple.{entered}
 use Rattle.clap.specs.Faults.{check_fault, defaults_fault, entered_fault, settle_fault, step_fault, turn_fault, walk_fault}
 use Rattle.clap.specs.declared.error.kind.ErrorKind.{ErrorKind}
-use Rattle.bsc_cli.specs.Words.{AskedOf, unless}
-use Rattle.bsc_cli.specs.Listed.{has_hyphen}
+use Rattle.bsc_cli.specs.Words.{AskedOf, unless, has_hyphen}
 
 -- a command without subcommands
 abbrev of_shape : Shape → App
@@ -84,3 +83,7 @@ value_turn s id h p [] e = refl
 value_turn s id h p (b ∷ rest) e =
     let k : strip_byte 45 (b ∷ rest) ≡ None = rw e refl in
     rw (k, e) refl
+
+-- the matches so far, and a first or a second word that waits to be one
+abbrev pub pending : List Row → Text → Text → Held
+pending rows id word = record { rows = rows; pending = Some (id, word ∷ []); skip = 0 }

@@ -1,19 +1,22 @@
--- What the words of the program ask for.
-use Rattle.std.specs.Prelude.{ℕ, nat_le, ◌&&◌, if◌then◌else◌, List, [], ◌∷◌, codes, Option, Some, None, option_map}
-use Rattle.clap.specs.Words.{App, Kinds, Text, fault_of, first_of, matches_of}
+-- What the words of the program ask for, and the lists of words that name a command and all that it takes, in one order.
+use Rattle.std.specs.Prelude.{ℕ, nat_le, ◌==◌, Bool, true, false, not, ◌&&◌, if◌then◌else◌, List, [], ◌∷◌, codes, fold, Option, Some, None}
+use Rattle.std.specs.Prelude.{option_and_then, option_map}
+use Rattle.std.specs.List.{list_any}
+use Rattle.clap.specs.Words.{App, Kinds, Row, Rule, Text, fault_of, first_of, matches_of, new_app, new_rule, with_rule}
+use Rattle.clap.specs.declared.builder.action.ArgAction.TheVariants.{SetTrue}
 use Rattle.bsc_text.specs.Grammar.{number_of}
 use Rattle.bsc_text.specs.Lines.{same_octets}
-use Rattle.bsc_cli.specs.Commands.{replay_app, simulate_app, check_app, audit_app, hub_app, node_app, load_app}
-use Rattle.bsc_cli.specs.Commands.{test_hub_app, test_node_app}
 use Rattle.bsc_cli.specs.declared.bounds.TheConstants.{SESSIONS, WORKERS}
 use Rattle.bsc_cli.specs.declared.asked.Asked.{Asked}
-use Rattle.bsc_cli.specs.declared.asked.Asked.TheVariants.{Replay, Simulate, Check, Audit, Hub, Node, Load, TestHub, TestNode}
+use Rattle.bsc_cli.specs.declared.asked.Asked.TheVariants.{Replay, Simulate, Check, Audit, Hub, Node, LiveNode, Load, TestHub, TestNode}
+use Rattle.bsc_cli.specs.declared.asked.Way.{Way}
+use Rattle.bsc_cli.specs.declared.asked.Way.TheVariants as way
 
 -- What words may ask for: a script of one hub is played, or one of a network; lines are checked; journals are audited; a hub
 -- is served by the settings at a path, until so many links have ended or for ever, with journals under a prefix or without, and
--- until a file at a path asks for its stop, if one may; a node is run by the settings at a path
--- and the script at another; a workload is run by so many workers; or settings are tried, those of a hub at a path, or those of a
--- node at a path with the script at another.
+-- until a file at a path asks for its stop, if one may; a node is run by the settings at a path and the script at another, or by
+-- lines as they come; a workload is run by so many workers; or settings are tried, those of a hub at a path, or those of a node
+-- at a path with the script at another.
 pub data AskedOf : Type 0 where
   replay : AskedOf
   simulate : AskedOf
@@ -21,13 +24,42 @@ pub data AskedOf : Type 0 where
   audit : AskedOf
   hub : Text → Option ℕ → Option Text → Option Text → AskedOf
   node : Text → Text → AskedOf
+  live_node : Text → AskedOf
   load : ℕ → AskedOf
   test_hub : Text → AskedOf
   test_node : Text → Text → AskedOf
 
--- what `clap` finds for an argument of a command
-abbrev pub value_of : App → List Text → Text → Option Text
-value_of app words id = first_of id (matches_of app words)
+-- ---- the commands as arguments of `clap`
+
+-- a word that has to be there, in its place
+abbrev pub required : Text → Rule
+required id = record (new_rule id) { required = true }
+
+-- an option by its name, which takes one word
+abbrev pub option : Text → Rule
+option name = record (new_rule name) { long = Some name }
+
+-- a flag by its name, which takes no word and has to be there
+abbrev pub required_flag : Text → Rule
+required_flag name = record (new_rule name) { long = Some name; action = Some SetTrue; required = true }
+
+-- a command by its name, with the rules of its words
+abbrev pub app_with : Text → List Rule → App
+app_with name rules = fold with_rule (new_app name) rules
+
+-- `replay`, `simulate`, `check`, `audit`, `hub PATH [--sessions N] [--journal PREFIX] [--stop-file FILE]`, `node PATH SCRIPT` (SCRIPT may
+-- be `-`), `load N`; and what tries settings, `hub PATH --test` and `node PATH SCRIPT --test`
+abbrev pub app_for : Way → App
+app_for way.Replay = app_with (codes "replay") []
+app_for way.Simulate = app_with (codes "simulate") []
+app_for way.Check = app_with (codes "check") []
+app_for way.Audit = app_with (codes "audit") []
+app_for way.Hub =
+    app_with (codes "hub") (required (codes "path") ∷ option (codes "sessions") ∷ option (codes "journal") ∷ option (codes "stop-file") ∷ [])
+app_for way.TestHub = app_with (codes "hub") (required (codes "path") ∷ required_flag (codes "test") ∷ [])
+app_for way.Node = app_with (codes "node") (required (codes "path") ∷ required (codes "script") ∷ [])
+app_for way.TestNode = app_with (codes "node") (required (codes "path") ∷ required (codes "script") ∷ required_flag (codes "test") ∷ [])
+app_for way.Load = app_with (codes "load") (required (codes "workers") ∷ [])
 
 -- the number that a word writes in decimal digits, without a sign or a leading zero, where it is from 1 to `most`
 abbrev pub up_to : ℕ → Option ℕ → Option ℕ
@@ -49,11 +81,12 @@ hub_of None sessions journal stop_file = None
 hub_of (Some path) None journal stop_file = Some (hub path None journal stop_file)
 hub_of (Some path) (Some word) journal stop_file = option_map (λ n. hub path (Some n) journal stop_file) (sessions_of word)
 
--- a node by its path and its script
-abbrev pub node_of : Option Text → Option Text → Option AskedOf
-node_of None script = None
-node_of (Some path) None = None
-node_of (Some path) (Some script) = Some (node path script)
+-- a node by its path and its script, and whether `--` is among its words: a script `-` without `--` is no file, but the lines as they
+-- come
+abbrev pub node_of : Bool → Option Text → Option Text → Option AskedOf
+node_of ended None script = None
+node_of ended (Some path) None = None
+node_of ended (Some path) (Some script) = if same_octets script (codes "-") && not ended then Some (live_node path) else Some (node path script)
 
 -- a workload by its workers
 abbrev pub load_of : Option Text → Option AskedOf
@@ -70,73 +103,162 @@ test_node_of None script = None
 test_node_of (Some path) None = None
 test_node_of (Some path) (Some script) = Some (test_node path script)
 
+-- ---- what words ask for
+
+-- what is asked for by the rows that `clap` finds, where `--` is among the words or isn't
+abbrev pub found_by : Way → Bool → List Row → Option AskedOf
+found_by way.Replay ended rows = Some replay
+found_by way.Simulate ended rows = Some simulate
+found_by way.Check ended rows = Some check
+found_by way.Audit ended rows = Some audit
+found_by way.Hub ended rows =
+    hub_of (first_of (codes "path") rows) (first_of (codes "sessions") rows) (first_of (codes "journal") rows) (first_of (codes "stop-file") rows)
+found_by way.TestHub ended rows = test_hub_of (first_of (codes "path") rows)
+found_by way.Node ended rows = node_of ended (first_of (codes "path") rows) (first_of (codes "script") rows)
+found_by way.TestNode ended rows = test_node_of (first_of (codes "path") rows) (first_of (codes "script") rows)
+found_by way.Load ended rows = load_of (first_of (codes "workers") rows)
+
 -- what is asked for, where `clap` finds nothing at fault
 abbrev pub unless : Kinds → Option AskedOf → Option AskedOf
 unless [] asked = asked
 unless (kind ∷ kinds) asked = None
 
--- what words ask for as those of each command
-abbrev pub replay_asked : List Text → Option AskedOf
-replay_asked words = unless (fault_of replay_app words) (Some replay)
+-- whether a word is among words
+abbrev pub has_word : Text → List Text → Bool
+has_word word words = list_any (λ w. same_octets w word) words
 
-abbrev pub simulate_asked : List Text → Option AskedOf
-simulate_asked words = unless (fault_of simulate_app words) (Some simulate)
+-- what words ask for as they are read in one way
+abbrev pub asked_as : Way → List Text → Option AskedOf
+asked_as way words = unless (fault_of (app_for way) words) (found_by way (has_word (codes "--") words) (matches_of (app_for way) words))
 
-abbrev pub check_asked : List Text → Option AskedOf
-check_asked words = unless (fault_of check_app words) (Some check)
+-- the way to read words whose first is this
+abbrev pub way_of : Text → Option Way
+way_of name =
+    if same_octets name (codes "replay") then Some way.Replay
+    else if same_octets name (codes "simulate") then Some way.Simulate
+    else if same_octets name (codes "check") then Some way.Check
+    else if same_octets name (codes "audit") then Some way.Audit
+    else if same_octets name (codes "hub") then Some way.Hub
+    else if same_octets name (codes "node") then Some way.Node
+    else if same_octets name (codes "load") then Some way.Load
+    else None
 
-abbrev pub audit_asked : List Text → Option AskedOf
-audit_asked words = unless (fault_of audit_app words) (Some audit)
-
-abbrev pub hub_asked : List Text → Option AskedOf
-hub_asked words =
-    unless (fault_of hub_app words)
-    (hub_of (value_of hub_app words (codes "path")) (value_of hub_app words (codes "sessions")) (value_of hub_app words (codes "journal"))
-    (value_of hub_app words (codes "stop-file")))
-
-abbrev pub node_asked : List Text → Option AskedOf
-node_asked words =
-    unless (fault_of node_app words) (node_of (value_of node_app words (codes "path")) (value_of node_app words (codes "script")))
-
-abbrev pub load_asked : List Text → Option AskedOf
-load_asked words = unless (fault_of load_app words) (load_of (value_of load_app words (codes "workers")))
-
-abbrev pub test_hub_asked : List Text → Option AskedOf
-test_hub_asked words = unless (fault_of test_hub_app words) (test_hub_of (value_of test_hub_app words (codes "path")))
-
-abbrev pub test_node_asked : List Text → Option AskedOf
-test_node_asked words =
-    unless (fault_of test_node_app words)
-    (test_node_of (value_of test_node_app words (codes "path")) (value_of test_node_app words (codes "script")))
+-- the other way to read the words of a command, if it has one: a hub and a node may have their settings tried
+abbrev pub other_way : Way → Option Way
+other_way way.Hub = Some way.TestHub
+other_way way.Node = Some way.TestNode
+other_way way = None
 
 -- what is asked for by the one, or else by the other
 abbrev pub or_by : Option AskedOf → Option AskedOf → Option AskedOf
 or_by (Some asked) other = Some asked
 or_by None other = other
 
--- what words ask for whose first is this, as those of a command that runs a hub, a node or a workload; those of a hub and a node that
--- aren't taken otherwise may have their settings tried
-abbrev pub run_of : Text → List Text → Option AskedOf
-run_of name words =
-    if same_octets name (codes "hub") then or_by (hub_asked words) (test_hub_asked words)
-    else if same_octets name (codes "node") then or_by (node_asked words) (test_node_asked words)
-    else if same_octets name (codes "load") then load_asked words
-    else None
+-- what is asked for in a way or, where that is nothing, in the other way of the command
+abbrev pub first_in : (Way → Option AskedOf) → Option Way → Option AskedOf
+first_in asked None = None
+first_in asked (Some way) = or_by (asked way) (option_and_then asked (other_way way))
 
 -- what words ask for whose first is this
 abbrev pub asked_of : Text → List Text → Option AskedOf
-asked_of name words =
-    if same_octets name (codes "replay") then replay_asked words
-    else if same_octets name (codes "simulate") then simulate_asked words
-    else if same_octets name (codes "check") then check_asked words
-    else if same_octets name (codes "audit") then audit_asked words
-    else run_of name words
+asked_of name words = first_in (λ way. asked_as way words) (way_of name)
 
 -- What words ask for: the first names a command, and `clap` takes all of them as that command and its arguments. They ask
 -- for nothing where there is none, where the first names no command, or where `clap` refuses them or N is out of range.
 abbrev pub asked_by : List Text → Option AskedOf
 asked_by [] = None
 asked_by (name ∷ words) = asked_of name (name ∷ words)
+
+-- ---- lists of words
+
+-- whether a word begins with a hyphen
+abbrev pub has_hyphen : Text → Bool
+has_hyphen [] = false
+has_hyphen (c ∷ word) = c == 45
+
+-- whether no word begins with a hyphen
+abbrev pub have_no_hyphen : List Text → Bool
+have_no_hyphen [] = true
+have_no_hyphen (word ∷ words) = not (has_hyphen word) && have_no_hyphen words
+
+-- a command with no words after it
+abbrev pub listed_alone : AskedOf → List Text → Option AskedOf
+listed_alone asked [] = Some asked
+listed_alone asked (word ∷ words) = None
+
+-- `PATH`, and behind it none, one, two or all of `--sessions N`, `--journal PREFIX` and `--stop-file FILE`, in this order
+abbrev pub listed_hub : List Text → Option AskedOf
+listed_hub (path ∷ []) = Some (hub path None None None)
+listed_hub (path ∷ option ∷ word ∷ []) =
+    if same_octets option (codes "--sessions") then option_map (λ n. hub path (Some n) None None) (sessions_of word)
+    else if same_octets option (codes "--journal") then Some (hub path None (Some word) None)
+    else if same_octets option (codes "--stop-file") then Some (hub path None None (Some word)) else None
+listed_hub (path ∷ option ∷ word ∷ next ∷ last ∷ []) =
+    if same_octets option (codes "--sessions") && same_octets next (codes "--journal")
+    then option_map (λ n. hub path (Some n) (Some last) None) (sessions_of word)
+    else if same_octets option (codes "--sessions") && same_octets next (codes "--stop-file")
+    then option_map (λ n. hub path (Some n) None (Some last)) (sessions_of word)
+    else if same_octets option (codes "--journal") && same_octets next (codes "--stop-file") then Some (hub path None (Some word) (Some last))
+    else None
+listed_hub (path ∷ option ∷ word ∷ next ∷ prefix ∷ third ∷ file ∷ []) =
+    if same_octets option (codes "--sessions") && same_octets next (codes "--journal") && same_octets third (codes "--stop-file")
+    then option_map (λ n. hub path (Some n) (Some prefix) (Some file)) (sessions_of word) else None
+listed_hub words = None
+
+-- `PATH SCRIPT`, and `PATH -`
+abbrev pub listed_node : List Text → Option AskedOf
+listed_node (path ∷ script ∷ []) = if same_octets script (codes "-") then Some (live_node path) else Some (node path script)
+listed_node words = None
+
+-- `N`
+abbrev pub listed_load : List Text → Option AskedOf
+listed_load (word ∷ []) = option_map load (workers_of word)
+listed_load words = None
+
+-- `PATH --test`
+abbrev pub listed_test_hub : List Text → Option AskedOf
+listed_test_hub (path ∷ flag ∷ []) = if same_octets flag (codes "--test") then Some (test_hub path) else None
+listed_test_hub words = None
+
+-- `PATH SCRIPT --test`
+abbrev pub listed_test_node : List Text → Option AskedOf
+listed_test_node (path ∷ script ∷ flag ∷ []) = if same_octets flag (codes "--test") then Some (test_node path script) else None
+listed_test_node words = None
+
+-- what words behind the first ask for as a list, in one way to read them
+abbrev pub listed_as : Way → List Text → Option AskedOf
+listed_as way.Replay words = listed_alone replay words
+listed_as way.Simulate words = listed_alone simulate words
+listed_as way.Check words = listed_alone check words
+listed_as way.Audit words = listed_alone audit words
+listed_as way.Hub words = listed_hub words
+listed_as way.TestHub words = listed_test_hub words
+listed_as way.Node words = listed_node words
+listed_as way.TestNode words = listed_test_node words
+listed_as way.Load words = listed_load words
+
+-- What exactly the lists `replay`, `simulate`, `check`, `audit`, `hub PATH` with none, one, two or all of `--sessions N`,
+-- `--journal PREFIX` and `--stop-file FILE` behind it in this order, `hub PATH --test`, `node PATH SCRIPT`, `node PATH -`,
+-- `node PATH SCRIPT --test` and `load N` ask for.
+abbrev pub listed : List Text → Option AskedOf
+listed [] = None
+listed (name ∷ words) = first_in (λ way. listed_as way words) (way_of name)
+
+-- whether a path or a prefix, if there is one, begins with no hyphen
+abbrev pub is_plain : Option Text → Bool
+is_plain None = true
+is_plain (Some word) = not (has_hyphen word)
+
+-- whether the paths and the prefix in what is asked for begin with no hyphen
+abbrev pub has_plain_paths : AskedOf → Bool
+has_plain_paths (hub path sessions journal stop_file) = is_plain journal && (is_plain stop_file && not (has_hyphen path))
+has_plain_paths (node path script) = not (has_hyphen path) && not (has_hyphen script)
+has_plain_paths (live_node path) = not (has_hyphen path)
+has_plain_paths (test_hub path) = not (has_hyphen path)
+has_plain_paths (test_node path script) = not (has_hyphen path) && not (has_hyphen script)
+has_plain_paths asked = true
+
+-- ---- answers
 
 -- what an answer asks for
 abbrev pub seen : Asked → AskedOf
@@ -146,6 +268,7 @@ seen Check = check
 seen Audit = audit
 seen (Hub path sessions journal stop_file) = hub path.now sessions (option_map (λ p. p.now) journal) (option_map (λ p. p.now) stop_file)
 seen (Node path script) = node path.now script.now
+seen (LiveNode path) = live_node path.now
 seen (Load workers) = load workers
 seen (TestHub path) = test_hub path.now
 seen (TestNode path script) = test_node path.now script.now

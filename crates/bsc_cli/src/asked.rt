@@ -1,4 +1,4 @@
-//! What the words of the program ask for.
+//! What the words of the program ask for, and the ways to read them.
 
 /// What the words of the program ask for.
 #[derive(Clone, Copy, Debug, PartialEq, Eq)]
@@ -29,6 +29,11 @@ pub enum Asked<'a> {
         /// Where the script is.
         script: &'a str,
     },
+    /// `node PATH -`, where no word is `--`: runs a node by lines as they come.
+    LiveNode {
+        /// Where the settings are.
+        path: &'a str,
+    },
     /// `load N`: runs a workload.
     Load {
         /// How many workers it has: 1 to `WORKERS`.
@@ -46,4 +51,27 @@ pub enum Asked<'a> {
         /// Where the script is.
         script: &'a str,
     },
+}
+
+/// A way to read words: as those of a command, with one set of arguments. `hub` and `node` have two, without `--test` and with it.
+#[derive(Clone, Copy)]
+pub(crate) enum Way {
+    /// `replay`.
+    Replay,
+    /// `simulate`.
+    Simulate,
+    /// `check`.
+    Check,
+    /// `audit`.
+    Audit,
+    /// `hub PATH`, with its options.
+    Hub,
+    /// `hub PATH --test`.
+    TestHub,
+    /// `node PATH SCRIPT`, and `node PATH -`.
+    Node,
+    /// `node PATH SCRIPT --test`.
+    TestNode,
+    /// `load N`.
+    Load,
 }

@@ -1,8 +1,7 @@
 //! What words ask for, whatever their paths are.
 ghost use Rattle.std.specs.Prelude.{◌≡◌, true, List, ◌∷◌, Some, None, codes};
 ghost use Rattle.clap.specs.Words.{Text};
-ghost use Rattle.bsc_cli.specs.Words.{AskedOf, asked_by};
-ghost use Rattle.bsc_cli.specs.Listed.{have_no_hyphen, has_plain_paths, listed};
+ghost use Rattle.bsc_cli.specs.Words.{AskedOf, asked_by, have_no_hyphen, has_plain_paths, listed};
 
 /// A list that names a command and all that it takes, the options last, asks for just that, where its paths and its prefix
 /// begin with no hyphen.

@@ -1,8 +1,8 @@
 //! The words of the program: which command they name, and what they say to it.
 //!
 //! Start at `specs/Words.antt`, which has each command as arguments of the kit's `clap`, and what words ask for. `reading`
-//! has `read_words`, which is held to it, and `read` has words together with what that came to; `arguments` has the same
-//! commands for the code, and `laws` what lists of words ask for whatever their paths are.
+//! has `read_words`, which is held to it, and `read` has words together with what that came to; `laws` has what lists of
+//! words ask for whatever their paths are.
 #![tactic(auto)]
 
 mod arguments;

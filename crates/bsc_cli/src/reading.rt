@@ -1,22 +1,53 @@
 //! What some words ask for.
 ghost use Rattle.std.specs.Prelude.{◌≡◌, ◌≢◌, [], Some, None, Err, true, IfOk, codes, map, option_map, string_bytes};
+ghost use Rattle.std.specs.List.{list_any};
 ghost use Rattle.clap.specs.Words.{app_of, fault_of, first_of, found_of, is_simple_and_free, matches_of, rows_of};
+ghost use Rattle.bsc_text.specs.Lines.{same_octets};
 ghost use Rattle.bsc_cli.specs.declared.fault.WordsFault.TheVariants as words_fault;
-ghost use Rattle.bsc_cli.specs.Words.{sessions_of, workers_of, hub_of, node_of, load_of, run_of, asked_by, seen};
-ghost use Rattle.bsc_cli.specs.Words.{replay_asked, simulate_asked, check_asked, audit_asked, hub_asked, node_asked, load_asked};
-ghost use Rattle.bsc_cli.specs.Words.{test_hub_of, test_node_of, test_hub_asked, test_node_asked, or_by};
+ghost use Rattle.bsc_cli.specs.Words.{app_for, asked_as, asked_by, asked_of, found_by, other_way, seen, way_of};
+ghost use Rattle.bsc_cli.specs.Words.{hub_of, load_of, node_of, sessions_of, test_hub_of, test_node_of, workers_of};
 
-use crate::arguments::{
-    hub_arguments, load_arguments, no_arguments, node_arguments, test_hub_arguments,
-    test_node_arguments,
-};
-use crate::asked::Asked;
+use crate::arguments::{with_option, with_required, with_required_flag};
+use crate::asked::{Asked, Way};
 use crate::bounds::{SESSIONS, WORKERS};
 use crate::fault::WordsFault;
+use bsc_octets::NoMemory;
 use bsc_text::read_number;
 use clap::error::ErrorKind;
 use clap::{ArgMatches, Command};
 use std::alloc::Global;
+
+/// The command of a way to read words, with its arguments.
+fn arguments<'a>(alloc: Global, way: Way) -> Result<Command<'a>, NoMemory>
+    ensures { IfOk result (λ c. app_of c ≡ app_for way) }
+{
+    match way {
+        Way::Replay => Ok(Command::new(alloc, "replay")),
+        Way::Simulate => Ok(Command::new(alloc, "simulate")),
+        Way::Check => Ok(Command::new(alloc, "check")),
+        Way::Audit => Ok(Command::new(alloc, "audit")),
+        Way::Hub => {
+            let hub = with_required(alloc, Command::new(alloc, "hub"), "path")?;
+            let hub = with_option(alloc, hub, "sessions")?;
+            let hub = with_option(alloc, hub, "journal")?;
+            with_option(alloc, hub, "stop-file")
+        }
+        Way::TestHub => {
+            let hub = with_required(alloc, Command::new(alloc, "hub"), "path")?;
+            with_required_flag(alloc, hub, "test")
+        }
+        Way::Node => {
+            let node = with_required(alloc, Command::new(alloc, "node"), "path")?;
+            with_required(alloc, node, "script")
+        }
+        Way::TestNode => {
+            let node = with_required(alloc, Command::new(alloc, "node"), "path")?;
+            let node = with_required(alloc, node, "script")?;
+            with_required_flag(alloc, node, "test")
+        }
+        Way::Load => with_required(alloc, Command::new(alloc, "load"), "workers"),
+    }
+}
 
 /// What `clap` finds in words as the arguments of a command.
 fn parse<'a>(command: Command<'a>, words: &'a [String]) -> Result<ArgMatches<'a>, WordsFault>
@@ -89,14 +120,31 @@ fn hub_of<'a>(
     }
 }
 
-/// A node by its path and its script.
-fn node_of<'a>(path: Option<&'a str>, script: Option<&'a str>) -> Option<Asked<'a>>
-    ensures { option_map seen result ≡ node_of (option_map (λ s. s.now) path.entry) (option_map (λ s. s.now) script.entry) }
+/// Whether a word is `--`.
+fn is_end(word: &String) -> bool
+    ensures { result ≡ same_octets (string_bytes word.now) (codes "--") }
 {
-    Some(Asked::Node {
-        path: path?,
-        script: script?,
-    })
+    word.as_bytes() == b"--".as_slice()
+}
+
+/// Whether `--` is among words, behind which each word is a path.
+fn has_end(words: &[String]) -> bool
+    ensures { result ≡ list_any (λ w. same_octets (string_bytes w) (codes "--")) words.now }
+{
+    words.iter().any(|word| is_end(word))
+}
+
+/// A node by its path and its script. A script `-` is no file, but the lines as they come, unless `--` is among the words.
+fn node_of<'a>(ended: bool, path: Option<&'a str>, script: Option<&'a str>) -> Option<Asked<'a>>
+    ensures { option_map seen result ≡ node_of ended (option_map (λ s. s.now) path.entry) (option_map (λ s. s.now) script.entry) }
+{
+    let path = path?;
+    let script = script?;
+    if script.as_bytes() == b"-".as_slice() && !ended {
+        Some(Asked::LiveNode { path })
+    } else {
+        Some(Asked::Node { path, script })
+    }
 }
 
 /// A workload by its workers.
@@ -131,156 +179,99 @@ fn value_at<'a>(matches: &ArgMatches<'a>, id: &str) -> Option<&'a str>
     matches.get_str(id)
 }
 
-/// The command `replay`, if that is what the words say.
-fn read_replay<'a>(alloc: Global, words: &'a [String]) -> Result<Asked<'a>, WordsFault>
-    ensures ok { IfOk result (λ a. replay_asked (map string_bytes words.entry.now) ≡ Some (seen a)) }
-    ensures refused { result ≡ Err words_fault.Refused → replay_asked (map string_bytes words.entry.now) ≡ None }
+/// What is asked for by what `clap` finds, where `--` is among the words or isn't.
+fn found_in<'a>(way: Way, ended: bool, matches: &ArgMatches<'a>) -> Option<Asked<'a>>
+    ensures { option_map seen result ≡ found_by way ended (rows_of (found_of matches.now)) }
 {
-    parse(no_arguments(alloc, "replay"), words)?;
-    Ok(Asked::Replay)
+    match way {
+        Way::Replay => Some(Asked::Replay),
+        Way::Simulate => Some(Asked::Simulate),
+        Way::Check => Some(Asked::Check),
+        Way::Audit => Some(Asked::Audit),
+        Way::Hub => hub_of(
+            value_at(matches, "path"),
+            value_at(matches, "sessions"),
+            value_at(matches, "journal"),
+            value_at(matches, "stop-file"),
+        ),
+        Way::TestHub => test_hub_of(value_at(matches, "path")),
+        Way::Node => node_of(
+            ended,
+            value_at(matches, "path"),
+            value_at(matches, "script"),
+        ),
+        Way::TestNode => test_node_of(value_at(matches, "path"), value_at(matches, "script")),
+        Way::Load => load_of(value_at(matches, "workers")),
+    }
 }
 
-/// The command `simulate`, if that is what the words say.
-fn read_simulate<'a>(alloc: Global, words: &'a [String]) -> Result<Asked<'a>, WordsFault>
-    ensures ok { IfOk result (λ a. simulate_asked (map string_bytes words.entry.now) ≡ Some (seen a)) }
-    ensures refused { result ≡ Err words_fault.Refused → simulate_asked (map string_bytes words.entry.now) ≡ None }
+/// What words ask for as they are read in one way.
+fn read_as<'a>(alloc: Global, way: Way, words: &'a [String]) -> Result<Asked<'a>, WordsFault>
+    ensures ok { IfOk result (λ a. asked_as way (map string_bytes words.entry.now) ≡ Some (seen a)) }
+    ensures refused { result ≡ Err words_fault.Refused → asked_as way (map string_bytes words.entry.now) ≡ None }
 {
-    parse(no_arguments(alloc, "simulate"), words)?;
-    Ok(Asked::Simulate)
-}
-
-/// The command `check`, if that is what the words say.
-fn read_check<'a>(alloc: Global, words: &'a [String]) -> Result<Asked<'a>, WordsFault>
-    ensures ok { IfOk result (λ a. check_asked (map string_bytes words.entry.now) ≡ Some (seen a)) }
-    ensures refused { result ≡ Err words_fault.Refused → check_asked (map string_bytes words.entry.now) ≡ None }
-{
-    parse(no_arguments(alloc, "check"), words)?;
-    Ok(Asked::Check)
-}
-
-/// The command `audit`, if that is what the words say.
-fn read_audit<'a>(alloc: Global, words: &'a [String]) -> Result<Asked<'a>, WordsFault>
-    ensures ok { IfOk result (λ a. audit_asked (map string_bytes words.entry.now) ≡ Some (seen a)) }
-    ensures refused { result ≡ Err words_fault.Refused → audit_asked (map string_bytes words.entry.now) ≡ None }
-{
-    parse(no_arguments(alloc, "audit"), words)?;
-    Ok(Asked::Audit)
-}
-
-/// The command `hub`, if that is what the words say.
-fn read_hub<'a>(alloc: Global, words: &'a [String]) -> Result<Asked<'a>, WordsFault>
-    ensures ok { IfOk result (λ a. hub_asked (map string_bytes words.entry.now) ≡ Some (seen a)) }
-    ensures refused { result ≡ Err words_fault.Refused → hub_asked (map string_bytes words.entry.now) ≡ None }
-{
-    let matches = parse(hub_arguments(alloc)?, words)?;
-    let path = value_at(&matches, "path");
-    let sessions = value_at(&matches, "sessions");
-    let journal = value_at(&matches, "journal");
-    let stop_file = value_at(&matches, "stop-file");
-    match hub_of(path, sessions, journal, stop_file) {
+    let matches = parse(arguments(alloc, way)?, words)?;
+    match found_in(way, has_end(words), &matches) {
         Some(asked) => Ok(asked),
         None => Err(WordsFault::Refused),
     }
 }
 
-/// The command `node`, if that is what the words say.
-fn read_node<'a>(alloc: Global, words: &'a [String]) -> Result<Asked<'a>, WordsFault>
-    ensures ok { IfOk result (λ a. node_asked (map string_bytes words.entry.now) ≡ Some (seen a)) }
-    ensures refused { result ≡ Err words_fault.Refused → node_asked (map string_bytes words.entry.now) ≡ None }
+/// The way to read words whose first is this.
+fn way_of(name: &[u8]) -> Option<Way>
+    ensures { result ≡ way_of name.now }
 {
-    let matches = parse(node_arguments(alloc)?, words)?;
-    match node_of(value_at(&matches, "path"), value_at(&matches, "script")) {
-        Some(asked) => Ok(asked),
-        None => Err(WordsFault::Refused),
+    if name == b"replay".as_slice() {
+        Some(Way::Replay)
+    } else if name == b"simulate".as_slice() {
+        Some(Way::Simulate)
+    } else if name == b"check".as_slice() {
+        Some(Way::Check)
+    } else if name == b"audit".as_slice() {
+        Some(Way::Audit)
+    } else if name == b"hub".as_slice() {
+        Some(Way::Hub)
+    } else if name == b"node".as_slice() {
+        Some(Way::Node)
+    } else if name == b"load".as_slice() {
+        Some(Way::Load)
+    } else {
+        None
     }
 }
 
-/// The command `load`, if that is what the words say.
-fn read_load<'a>(alloc: Global, words: &'a [String]) -> Result<Asked<'a>, WordsFault>
-    ensures ok { IfOk result (λ a. load_asked (map string_bytes words.entry.now) ≡ Some (seen a)) }
-    ensures refused { result ≡ Err words_fault.Refused → load_asked (map string_bytes words.entry.now) ≡ None }
+/// The other way to read the words of a command, if it has one.
+fn other_way(way: Way) -> Option<Way>
+    ensures { result ≡ other_way way }
 {
-    let matches = parse(load_arguments(alloc)?, words)?;
-    match load_of(value_at(&matches, "workers")) {
-        Some(asked) => Ok(asked),
-        None => Err(WordsFault::Refused),
+    match way {
+        Way::Hub => Some(Way::TestHub),
+        Way::Node => Some(Way::TestNode),
+        _ => None,
     }
 }
 
-/// The test of a hub's settings, if that is what the words say.
-fn read_test_hub<'a>(alloc: Global, words: &'a [String]) -> Result<Asked<'a>, WordsFault>
-    ensures ok { IfOk result (λ a. test_hub_asked (map string_bytes words.entry.now) ≡ Some (seen a)) }
-    ensures refused { result ≡ Err words_fault.Refused → test_hub_asked (map string_bytes words.entry.now) ≡ None }
+/// What words ask for whose first is this.
+fn read_by<'a>(alloc: Global, name: &[u8], words: &'a [String]) -> Result<Asked<'a>, WordsFault>
+    ensures ok { IfOk result (λ a. asked_of name.now (map string_bytes words.entry.now) ≡ Some (seen a)) }
+    ensures refused { result ≡ Err words_fault.Refused → asked_of name.now (map string_bytes words.entry.now) ≡ None }
 {
-    let matches = parse(test_hub_arguments(alloc)?, words)?;
-    match test_hub_of(value_at(&matches, "path")) {
-        Some(asked) => Ok(asked),
-        None => Err(WordsFault::Refused),
+    let Some(way) = way_of(name) else {
+        return Err(WordsFault::Refused);
+    };
+    match (read_as(alloc, way, words), other_way(way)) {
+        (Err(WordsFault::Refused), Some(other)) => read_as(alloc, other, words),
+        (read, _) => read,
     }
-}
-
-/// The test of a node's settings and script, if that is what the words say.
-fn read_test_node<'a>(alloc: Global, words: &'a [String]) -> Result<Asked<'a>, WordsFault>
-    ensures ok { IfOk result (λ a. test_node_asked (map string_bytes words.entry.now) ≡ Some (seen a)) }
-    ensures refused { result ≡ Err words_fault.Refused → test_node_asked (map string_bytes words.entry.now) ≡ None }
-{
-    let matches = parse(test_node_arguments(alloc)?, words)?;
-    match test_node_of(value_at(&matches, "path"), value_at(&matches, "script")) {
-        Some(asked) => Ok(asked),
-        None => Err(WordsFault::Refused),
-    }
-}
-
-/// The command `hub`, or the test of its settings, if that is what the words say.
-fn read_any_hub<'a>(alloc: Global, words: &'a [String]) -> Result<Asked<'a>, WordsFault>
-    ensures ok { IfOk result (λ a. or_by (hub_asked (map string_bytes words.entry.now)) (test_hub_asked (map string_bytes words.entry.now)) ≡ Some (seen a)) }
-    ensures refused { result ≡ Err words_fault.Refused
-        → or_by (hub_asked (map string_bytes words.entry.now)) (test_hub_asked (map string_bytes words.entry.now)) ≡ None }
-{
-    match read_hub(alloc, words) {
-        Ok(asked) => Ok(asked),
-        Err(WordsFault::Refused) => read_test_hub(alloc, words),
-        Err(WordsFault::NoMemory) => Err(WordsFault::NoMemory),
-    }
-}
-
-/// The command `node`, or the test of its settings, if that is what the words say.
-fn read_any_node<'a>(alloc: Global, words: &'a [String]) -> Result<Asked<'a>, WordsFault>
-    ensures ok { IfOk result (λ a. or_by (node_asked (map string_bytes words.entry.now)) (test_node_asked (map string_bytes words.entry.now)) ≡ Some (seen a)) }
-    ensures refused { result ≡ Err words_fault.Refused
-        → or_by (node_asked (map string_bytes words.entry.now)) (test_node_asked (map string_bytes words.entry.now)) ≡ None }
-{
-    match read_node(alloc, words) {
-        Ok(asked) => Ok(asked),
-        Err(WordsFault::Refused) => read_test_node(alloc, words),
-        Err(WordsFault::NoMemory) => Err(WordsFault::NoMemory),
-    }
-}
-
-/// What the words ask for, if the command that they name runs a hub, a node or a workload, or tries settings.
-fn read_run<'a>(alloc: Global, name: &[u8], words: &'a [String]) -> Result<Asked<'a>, WordsFault>
-    ensures ok { IfOk result (λ a. run_of name.now (map string_bytes words.entry.now) ≡ Some (seen a)) }
-    ensures refused { result ≡ Err words_fault.Refused → run_of name.now (map string_bytes words.entry.now) ≡ None }
-{
-    if name == b"hub".as_slice() {
-        return read_any_hub(alloc, words);
-    }
-    if name == b"node".as_slice() {
-        return read_any_node(alloc, words);
-    }
-    if name == b"load".as_slice() {
-        return read_load(alloc, words);
-    }
-    Err(WordsFault::Refused)
 }
 
 /// What the words of the program ask for, the program's own name not among them.
 ///
 /// The first word is `replay`, `simulate`, `check`, `audit`, `hub`, `node` or `load`, and the words after it are read by
 /// `clap` as the arguments of that command: `hub` takes a path, `--sessions` with a number from 1 to 1,000,000,
-/// `--journal` with a prefix, and `--stop-file` with a path; `node` a path and the path of a script; `load` a number from 1 to
-/// `WORKERS`; the others take none. Beside its paths `hub` or `node` may have `--test` alone, by which its settings are tried. A
-/// call for help is refused.
+/// `--journal` with a prefix, and `--stop-file` with a path; `node` a path and the path of a script, or `-` for lines as they
+/// come; `load` a number from 1 to `WORKERS`; the others take none. Beside its paths `hub` or `node` may have `--test` alone, by
+/// which its settings are tried. A call for help is refused.
 ///
 /// | error | when it comes |
 /// |---|---|
@@ -296,18 +287,5 @@ pub fn read_words<'a>(alloc: Global, words: &'a [String]) -> Result<Asked<'a>, W
     let Some(name) = words.first() else {
         return Err(WordsFault::Refused);
     };
-    let name = name.as_bytes();
-    if name == b"replay".as_slice() {
-        return read_replay(alloc, words);
-    }
-    if name == b"simulate".as_slice() {
-        return read_simulate(alloc, words);
-    }
-    if name == b"check".as_slice() {
-        return read_check(alloc, words);
-    }
-    if name == b"audit".as_slice() {
-        return read_audit(alloc, words);
-    }
-    read_run(alloc, name, words)
+    read_by(alloc, name.as_bytes(), words)
 }

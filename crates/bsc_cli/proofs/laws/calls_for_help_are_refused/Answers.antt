@@ -1,4 +1,4 @@
-use Rattle.bsc_cli.proofs.Help.{long_help, short_help}
+use Rattle.bsc_cli.proofs.Commands.{long_help, short_help}
 use Rattle.bsc_cli.proofs.laws.calls_for_help_are_refused.Goals as goal
 
 pub returns : goal.returns

@@ -1,4 +1,4 @@
-use Rattle.bsc_cli.proofs.Taken.{listed_taken}
+use Rattle.bsc_cli.proofs.Commands.{listed_taken}
 use Rattle.bsc_cli.proofs.laws.listed_words_are_taken.Goals as goal
 
 pub returns : goal.returns
