@@ -1,4 +1,3 @@
 pub mod Commands
-pub mod Outside
-pub mod Statuses
+pub mod Ends
 pub mod Load

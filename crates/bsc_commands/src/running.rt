@@ -1,5 +1,5 @@
 //! What the program does.
-ghost use Rattle.std.specs.Prelude.{◌≡◌, ◌≢◌, ◌≤◌, ◌⊎◌, ◌++◌, ◌∷◌, [], ℕ, List, Option, None, Some, Ok, map};
+ghost use Rattle.std.specs.Prelude.{◌≡◌, ◌≢◌, ◌≤◌, ◌⊎◌, ◌++◌, ◌∷◌, [], ℕ, List, Option, None, Some, Ok, false, map};
 ghost use Rattle.clap.specs.Words.{Text};
 ghost use Rattle.bsc_edge.specs.Asked.{GaveFile, ReadsFirstOf};
 ghost use Rattle.bsc_outside.specs.Faults.{HasRisen, PutsPrefix};
@@ -20,7 +20,9 @@ ghost use Rattle.bsc_hub_command.specs.Settled.{IsSettled, Unsettled};
 ghost use Rattle.bsc_hub_command.specs.Tested.{TestsHub};
 ghost use Rattle.bsc_commands.specs.Load.Loaded.{RunsLoad};
 ghost use Rattle.bsc_node_command.specs.Comes.{RunsFiles, acceptor_world, node_world};
+ghost use Rattle.bsc_node_command.specs.Lives.{RunsLive, lines_world, live_world};
 ghost use Rattle.bsc_node_command.specs.Tested.{TestsNode};
+ghost use Rattle.bsc_live_lines.specs.Ending.{EndWasTaken};
 ghost use Rattle.bsc_node_run.specs.declared.due.Due.{Due};
 ghost use Rattle.bsc_node_run.specs.Drawing.{Draws};
 ghost use Rattle.bsc_node_run.specs.Scripts.{script_of, wish_of};
@@ -28,19 +30,20 @@ ghost use Rattle.bsc_node_run.specs.Worlds.{dialling};
 ghost use Rattle.bsc_node_laws.specs.Courses.{FinishCame};
 ghost use Rattle.bsc_cli.specs.declared.fault.WordsFault.TheVariants as words_fault;
 ghost use Rattle.bsc_cli.specs.Read.{asked_in};
-ghost use Rattle.bsc_cli.specs.Words.{audit, check, hub, load, node, replay, seen, simulate, test_hub, test_node};
+ghost use Rattle.bsc_cli.specs.Words.{audit, check, hub, live_node, load, node, replay, seen, simulate, test_hub, test_node};
 ghost use Rattle.bsc_commands.specs.Commands.{WritesWhatWasSent};
-ghost use Rattle.bsc_commands.specs.Outside.{LeavesAsker, TouchesOnly};
-ghost use Rattle.bsc_commands.specs.Statuses.{EndsBy};
+ghost use Rattle.bsc_commands.specs.Ends.{CutShort, EndsBy, LeavesAsker, LeavesLines, TouchesOnly};
 
 use crate::load::run_load;
 use crate::outside::Outside;
 use crate::playing::{Command, play};
 use bsc_audit_command::run_audit;
-use bsc_cli::{Asked, ReadWords, WORKERS, WordsFault};
+use bsc_cli::{Asked, ReadWords, WordsFault};
 use bsc_edge::{Acceptor, Clock, Dialer, Files, Journals, Link, Spawner, Waiter};
 use bsc_hub_command::{HubWords, run_hub, test_hub};
-use bsc_node_command::{NodeWords, run_node_files, test_node};
+use bsc_input::LiveInput;
+use bsc_live_lines::{LiveLines, Refusals};
+use bsc_node_command::{NodeWords, run_live_file, run_node_files, test_node};
 use bsc_node_run::Words;
 use bsc_outside::{Sink, Source};
 use bsc_player::{end_with, out_of_memory};
@@ -64,200 +67,8 @@ fn end_unasked<K: Sink>(sink: &mut K, fault: WordsFault) -> u8
     }
 }
 
-/// Does what is asked for: serves a hub, runs a node or a workload, tries settings, or plays or audits the source.
-fn run_asked<
-    R: Threads + Wait + Sync,
-    S: Source,
-    K: Sink,
-    F: Files,
-    C: Clock + Drop,
-    V: Waiter,
-    W: Words,
-    L: Link + Drop,
-    A: Acceptor<L>,
-    D: Dialer<L>,
-    N: Sink + Drop,
-    J: Journals<N>,
-    P: Spawner<SessionJob<L, C, N>>,
-    Q: StopAsker,
->(
-    rt: &R,
-    alloc: Global,
-    asked: Asked<'_>,
-    outside: &mut Outside<S, K, F, C, V, W, A, D, N, J, P>,
-    asker: &mut Q,
-) -> u8
-    requires can { P.can_start outside.old.parts.spawner }
-    requires kept { outside.old.place.kept.hub ≡ None }
-    requires own { outside.old.place.own ≡ None }
-    requires workers { (n : ℕ) → seen asked ≡ load n → (1 ≤ n) × (n ≤ WORKERS) }
-    ensures hub { (path : Text) (sessions : Option ℕ) (journal stop_file : Option Text) (made : _) →
-        seen asked.entry ≡ hub path sessions journal stop_file → outside.new.place.kept.hub ≡ Some made →
-        (v : HubSettings) × (policy : Option Policy) × IsSettled (GaveFile F.holds F.loads outside.old.files outside.new.files path) v policy
-        × HubRuns (telling (Worked L.talk L.faults L.notices C.readings N.held N.faults) J.begins L.talk N.held N.faults)
-        (record { settings = v; policy = policy; sessions = sessions; prefix = journal })
-        outside.new.place
-        (world_by (door_by A.left A.came A.waits A.quiets A.bound A.faults) (stock_by P.jobs P.ends P.out P.faults) J.calls J.faults outside.old.parts (K.held outside.old.sink) (asking_by Q.looks Q.asked Q.endings asker.old))
-        (world_by (door_by A.left A.came A.waits A.quiets A.bound A.faults) (stock_by P.jobs P.ends P.out P.faults) J.calls J.faults outside.new.parts (K.held outside.new.sink) (asking_by Q.looks Q.asked Q.endings asker.new))
-        result }
-    ensures no_hub { (path : Text) (sessions : Option ℕ) (journal stop_file : Option Text) →
-        seen asked.entry ≡ hub path sessions journal stop_file → outside.new.place.kept.hub ≡ None →
-        Unsettled (GaveFile F.holds F.loads outside.old.files outside.new.files path) (F.faults outside.old.files) (F.faults outside.new.files) result
-        (K.held outside.old.sink) (K.held outside.new.sink) }
-    ensures no_hub_untouched { (path : Text) (sessions : Option ℕ) (journal stop_file : Option Text) →
-        seen asked.entry ≡ hub path sessions journal stop_file → outside.new.place.kept.hub ≡ None →
-        (outside.new.place ≡ outside.old.place) × (outside.new.parts ≡ outside.old.parts) }
-    ensures node { (path script : Text) → seen asked.entry ≡ node path script →
-        RunsFiles L.talk (Draws W.gives W.faults)
-        (record {
-          settings = GaveFile F.holds F.loads outside.old.files outside.new.files path;
-          script = GaveFile F.holds F.loads outside.old.files outside.new.files script;
-        })
-        (record {
-          unread = F.faults outside.old.files;
-          beside = node_world (dialling D.calls D.left D.came D.faults) V.waits outside.old.node
-              (acceptor_world A.left A.came A.waits A.bound A.faults outside.old.parts.acceptor) (C.readings outside.old.parts.clock) (K.held outside.old.sink);
-        })
-        (record {
-          unread = F.faults outside.new.files;
-          beside = node_world (dialling D.calls D.left D.came D.faults) V.waits outside.new.node
-              (acceptor_world A.left A.came A.waits A.bound A.faults outside.new.parts.acceptor) (C.readings outside.new.parts.clock) (K.held outside.new.sink);
-        }) result }
-    ensures finished { (path script : Text) → seen asked.entry ≡ node path script → result ≡ 0 →
-        (o : List ℕ) × GaveFile F.holds F.loads outside.old.files outside.new.files script o
-        × (lines : List Due) × (script_of o ≡ Ok (map wish_of lines))
-        × FinishCame lines (C.readings outside.old.parts.clock) (C.readings outside.new.parts.clock) }
-    ensures hub_read { (path : Text) (sessions : Option ℕ) (journal stop_file : Option Text) → seen asked.entry ≡ hub path sessions journal stop_file →
-        ReadsFirstOf (F.loads outside.old.files) (F.loads outside.new.files) (path ∷ []) }
-    ensures node_read { (path script : Text) → seen asked.entry ≡ node path script →
-        ReadsFirstOf (F.loads outside.old.files) (F.loads outside.new.files) (path ∷ script ∷ []) }
-    ensures hub_tested { (path : Text) → seen asked.entry ≡ test_hub path →
-        TestsHub (GaveFile F.holds F.loads outside.old.files outside.new.files path) (F.faults outside.old.files) (F.faults outside.new.files) result
-        (K.held outside.old.sink) (K.held outside.new.sink) }
-    ensures node_tested { (path script : Text) → seen asked.entry ≡ test_node path script →
-        TestsNode
-        (record {
-          settings = GaveFile F.holds F.loads outside.old.files outside.new.files path;
-          script = GaveFile F.holds F.loads outside.old.files outside.new.files script;
-        })
-        (record { unread = F.faults outside.old.files; written = K.held outside.old.sink })
-        (record { unread = F.faults outside.new.files; written = K.held outside.new.sink }) result }
-    ensures hub_test_read { (path : Text) → seen asked.entry ≡ test_hub path →
-        ReadsFirstOf (F.loads outside.old.files) (F.loads outside.new.files) (path ∷ []) }
-    ensures node_test_read { (path script : Text) → seen asked.entry ≡ test_node path script →
-        ReadsFirstOf (F.loads outside.old.files) (F.loads outside.new.files) (path ∷ script ∷ []) }
-    ensures load { (n : ℕ) (made : _) → seen asked.entry ≡ load n → outside.new.place.kept.hub ≡ Some made →
-        RunsLoad n outside.new.place.kept made result (K.held outside.old.sink) (K.held outside.new.sink) }
-    ensures no_load { (n : ℕ) → seen asked.entry ≡ load n → outside.new.place.kept.hub ≡ None →
-        RanOut result (K.held outside.old.sink) (K.held outside.new.sink) }
-    ensures replayed { seen asked.entry ≡ replay → StatusSays replay_of
-        (play_world S.left S.faults K.held outside.old.source outside.old.sink)
-        (play_world S.left S.faults K.held outside.new.source outside.new.sink) result }
-    ensures simulated { seen asked.entry ≡ simulate → StatusSays simulate_of
-        (play_world S.left S.faults K.held outside.old.source outside.old.sink)
-        (play_world S.left S.faults K.held outside.new.source outside.new.sink) result }
-    ensures checked { seen asked.entry ≡ check → StatusSays check_of
-        (play_world S.left S.faults K.held outside.old.source outside.old.sink)
-        (play_world S.left S.faults K.held outside.new.source outside.new.sink) result }
-    ensures replayed_reads { seen asked.entry ≡ replay → StatusSaysOfReads replay_of
-        (read_world S.reads S.faults K.held outside.old.source outside.old.sink)
-        (read_world S.reads S.faults K.held outside.new.source outside.new.sink) result }
-    ensures simulated_reads { seen asked.entry ≡ simulate → StatusSaysOfReads simulate_of
-        (read_world S.reads S.faults K.held outside.old.source outside.old.sink)
-        (read_world S.reads S.faults K.held outside.new.source outside.new.sink) result }
-    ensures checked_reads { seen asked.entry ≡ check → StatusSaysOfReads check_of
-        (read_world S.reads S.faults K.held outside.old.source outside.old.sink)
-        (read_world S.reads S.faults K.held outside.new.source outside.new.sink) result }
-    ensures audited_reads { seen asked.entry ≡ audit → OfReads (S.reads outside.old.source) (S.reads outside.new.source)
-        (λ o rest. RunsAudit o (Some rest) result (K.held outside.old.sink) (K.held outside.new.sink)) }
-    ensures audited { (o : List ℕ) → seen asked.entry ≡ audit → S.left outside.old.source ≡ Some o →
-        RunsAudit o (S.left outside.new.source) result (K.held outside.old.sink) (K.held outside.new.sink) }
-    ensures source { (seen asked.entry ≡ replay) ⊎ (seen asked.entry ≡ simulate) ⊎ (seen asked.entry ≡ check)
-        ⊎ (seen asked.entry ≡ audit) → result ≡ 3 → HasRisen (S.faults outside.old.source) (S.faults outside.new.source) }
-    ensures untouched { TouchesOnly (Some (seen asked.entry)) outside.old outside.new }
-    ensures unasked { LeavesAsker (Some (seen asked.entry)) outside.new.place.kept.hub asker.old asker.new }
-    ensures statuses { EndsBy (Some (seen asked.entry)) result }
-    ensures read { result ≡ 3 → HasRisen (S.faults outside.old.source) (S.faults outside.new.source)
-        ⊎ HasRisen (F.faults outside.old.files) (F.faults outside.new.files) }
-    ensures write { result ≡ 4 → HasRisen (K.faults outside.old.sink) (K.faults outside.new.sink)
-        ⊎ HasRisen (J.faults outside.old.parts.journals) (J.faults outside.new.parts.journals)
-        ⊎ HasFailed N.faults outside.new.place.own }
-    ensures link { RisesIf result 6 (A.faults outside.old.parts.acceptor) (A.faults outside.new.parts.acceptor) }
-{
-    match asked {
-        Asked::Replay => play(
-            alloc,
-            Command::Replay,
-            &mut outside.source,
-            &mut outside.sink,
-        ),
-        Asked::Simulate => play(
-            alloc,
-            Command::Simulate,
-            &mut outside.source,
-            &mut outside.sink,
-        ),
-        Asked::Check => play(
-            alloc,
-            Command::Check,
-            &mut outside.source,
-            &mut outside.sink,
-        ),
-        Asked::Audit => run_audit(
-            alloc,
-            &mut outside.source,
-            &mut outside.sink,
-            &mut outside.why,
-        ),
-        Asked::Hub {
-            path,
-            sessions,
-            journal,
-            stop_file,
-        } => {
-            // The asker was made of it.
-            let _ = stop_file;
-            run_hub(
-                rt,
-                alloc,
-                HubWords {
-                    path,
-                    sessions,
-                    journal,
-                },
-                &mut outside.files,
-                &mut outside.place,
-                &mut outside.sink,
-                &mut outside.parts,
-                asker,
-            )
-        }
-        Asked::Node { path, script } => run_node_files(
-            alloc,
-            NodeWords { path, script },
-            &mut outside.sink,
-            &mut outside.files,
-            &mut outside.parts.clock,
-            &mut outside.parts.acceptor,
-            &mut outside.node,
-        ),
-        Asked::Load { workers } => {
-            let kept = &mut outside.place.kept;
-            run_load(rt, alloc, workers, &mut outside.sink, kept)
-        }
-        Asked::TestHub { path } => {
-            let files = &mut outside.files;
-            test_hub(alloc, path, files, &mut outside.sink)
-        }
-        Asked::TestNode { path, script } => {
-            let words = NodeWords { path, script };
-            test_node(alloc, words, &mut outside.files, &mut outside.sink)
-        }
-    }
-}
-
 /// Runs the program by its words, as they were read, and answers its status: serves a hub, which the asker may stop, runs a node
-/// or a workload, tries settings, or plays or audits the source.
+/// or a workload, tries settings, or plays or audits the source. The lines are those that a node may be asked by as they come.
 ///
 /// | status | cause | last line written |
 /// |---|---|---|
@@ -266,7 +77,7 @@ fn run_asked<
 /// | 0 | the settings that are tried are good, and are written | none of its own |
 /// | 1 | the words are no command | `fault words` |
 /// | 2 | line n of the input, or of the node's script, is refused | `fault script line n` |
-/// | 3 | a read of the source, of the settings or of the node's script failed | `fault read` |
+/// | 3 | a read of the source, of the settings, or of the node's script or lines failed | `fault read` |
 /// | 4 | a write to the sink failed, also one of a last line; a journal of a hub couldn't be begun, or a write into the hub's own failed | none |
 /// | 5 | the settings are refused for this key | `fault settings KEY` |
 /// | 6 | the port can't be bound, or the acceptor failed | `fault link` |
@@ -289,12 +100,15 @@ pub fn run<
     J: Journals<N>,
     P: Spawner<SessionJob<L, C, N>>,
     Q: StopAsker,
+    I: LiveInput + Drop,
+    T: Refusals + Drop,
 >(
     rt: &R,
     alloc: Global,
     read: &ReadWords<'_>,
     outside: &mut Outside<S, K, F, C, V, W, A, D, N, J, P>,
     asker: &mut Q,
+    lines: &mut LiveLines<I, T>,
 ) -> u8
     requires can { P.can_start outside.old.parts.spawner }
     requires kept { outside.old.place.kept.hub ≡ None }
@@ -308,8 +122,10 @@ pub fn run<
         × HubRuns (telling (Worked L.talk L.faults L.notices C.readings N.held N.faults) J.begins L.talk N.held N.faults)
         (record { settings = v; policy = policy; sessions = sessions; prefix = journal })
         outside.new.place
-        (world_by (door_by A.left A.came A.waits A.quiets A.bound A.faults) (stock_by P.jobs P.ends P.out P.faults) J.calls J.faults outside.old.parts (K.held outside.old.sink) (asking_by Q.looks Q.asked Q.endings asker.old))
-        (world_by (door_by A.left A.came A.waits A.quiets A.bound A.faults) (stock_by P.jobs P.ends P.out P.faults) J.calls J.faults outside.new.parts (K.held outside.new.sink) (asking_by Q.looks Q.asked Q.endings asker.new))
+        (world_by (door_by A.left A.came A.waits A.quiets A.bound A.faults) (stock_by P.jobs P.ends P.out P.faults)
+        J.calls J.faults outside.old.parts (K.held outside.old.sink) (asking_by Q.looks Q.asked Q.endings asker.old))
+        (world_by (door_by A.left A.came A.waits A.quiets A.bound A.faults) (stock_by P.jobs P.ends P.out P.faults)
+        J.calls J.faults outside.new.parts (K.held outside.new.sink) (asking_by Q.looks Q.asked Q.endings asker.new))
         result }
     ensures no_hub { (path : Text) (sessions : Option ℕ) (journal stop_file : Option Text) →
         asked_in read.now ≡ Some (hub path sessions journal stop_file) → outside.new.place.kept.hub ≡ None →
@@ -344,11 +160,29 @@ pub fn run<
         × (lines : List Due) × (script_of o ≡ Ok (map wish_of lines))
         × FinishCame lines (C.readings outside.old.parts.clock) (C.readings outside.new.parts.clock) }
 
+    // Of the words of a node that is asked by lines: what became of it, by its settings as they were in their file, and by the lines
+    // that were taken.
+    ensures live_node { (path : Text) → asked_in read.now ≡ Some (live_node path) →
+        RunsLive L.talk (Draws W.gives W.faults) (GaveFile F.holds F.loads outside.old.files outside.new.files path)
+        (F.faults outside.old.files) (F.faults outside.new.files)
+        (live_world (node_world (dialling D.calls D.left D.came D.faults) V.waits outside.old.node
+        (acceptor_world A.left A.came A.waits A.bound A.faults outside.old.parts.acceptor) (C.readings outside.old.parts.clock) (K.held outside.old.sink))
+        (lines_world (I.taken lines.old.lines.inbox) lines.old.answers.items (T.told lines.old.lines.reading.teller) (I.failed lines.old.lines.inbox)))
+        (live_world (node_world (dialling D.calls D.left D.came D.faults) V.waits outside.new.node
+        (acceptor_world A.left A.came A.waits A.bound A.faults outside.new.parts.acceptor) (C.readings outside.new.parts.clock) (K.held outside.new.sink))
+        (lines_world (I.taken lines.new.lines.inbox) lines.new.answers.items (T.told lines.new.lines.reading.teller) (I.failed lines.new.lines.inbox))) result }
+
+    // Status 0 comes of these only where a line that asks the node to end was taken, or the end of an input that was read to it.
+    ensures live_finished { (path : Text) → asked_in read.now ≡ Some (live_node path) → result ≡ 0 →
+        EndWasTaken (I.taken lines.new.lines.inbox) × (I.failed lines.new.lines.inbox ≡ false) }
+
     // The files that these words name were read, each once and in their order, up to the first that wasn't good, and no other.
     ensures hub_read { (path : Text) (sessions : Option ℕ) (journal stop_file : Option Text) → asked_in read.now ≡ Some (hub path sessions journal stop_file) →
         ReadsFirstOf (F.loads outside.old.files) (F.loads outside.new.files) (path ∷ []) }
     ensures node_read { (path script : Text) → asked_in read.now ≡ Some (node path script) →
         ReadsFirstOf (F.loads outside.old.files) (F.loads outside.new.files) (path ∷ script ∷ []) }
+    ensures live_read { (path : Text) → asked_in read.now ≡ Some (live_node path) →
+        ReadsFirstOf (F.loads outside.old.files) (F.loads outside.new.files) (path ∷ []) }
 
     // Of the words that try settings, what is written of these: of each its value and whether that is the default, where they are good.
     ensures hub_tested { (path : Text) → asked_in read.now ≡ Some (test_hub path) →
@@ -416,10 +250,11 @@ pub fn run<
         EndsWith result 1 (K.held outside.old.sink) (K.held outside.new.sink) words_line
         ⊎ RanOut result (K.held outside.old.sink) (K.held outside.new.sink) }
 
-    // What the command that is asked for doesn't use is as it was: all, where none is; and the asker, but where a hub is made. Only its
-    // own statuses come of it; status 1 of words that ask for nothing alone.
+    // What the command that is asked for doesn't use is as it was: all, where none is; the asker, but where a hub is made; and the
+    // lines, but of a node that they ask. Only its own statuses come of it; status 1 of words that ask for nothing alone.
     ensures untouched { TouchesOnly (asked_in read.now) outside.old outside.new }
     ensures unasked { LeavesAsker (asked_in read.now) outside.new.place.kept.hub asker.old asker.new }
+    ensures unheard { LeavesLines (asked_in read.now) lines.old lines.new }
     ensures statuses { EndsBy (asked_in read.now) result }
 
     // Faults of the source, the files, the sink and the acceptor are counted. Where an input is played or audited, status 3 is the
@@ -427,14 +262,95 @@ pub fn run<
     ensures source { (asked_in read.now ≡ Some replay) ⊎ (asked_in read.now ≡ Some simulate) ⊎ (asked_in read.now ≡ Some check)
         ⊎ (asked_in read.now ≡ Some audit) → result ≡ 3 → HasRisen (S.faults outside.old.source) (S.faults outside.new.source) }
     ensures read { result ≡ 3 → HasRisen (S.faults outside.old.source) (S.faults outside.new.source)
-        ⊎ HasRisen (F.faults outside.old.files) (F.faults outside.new.files) }
+        ⊎ HasRisen (F.faults outside.old.files) (F.faults outside.new.files)
+        ⊎ CutShort (asked_in read.now) (I.failed lines.new.lines.inbox) }
     ensures write { result ≡ 4 → HasRisen (K.faults outside.old.sink) (K.faults outside.new.sink)
         ⊎ HasRisen (J.faults outside.old.parts.journals) (J.faults outside.new.parts.journals)
         ⊎ HasFailed N.faults outside.new.place.own }
     ensures link { RisesIf result 6 (A.faults outside.old.parts.acceptor) (A.faults outside.new.parts.acceptor) }
 {
-    match read.asked {
-        Ok(asked) => run_asked(rt, alloc, asked, outside, asker),
-        Err(fault) => end_unasked(&mut outside.sink, fault),
+    let asked = match read.asked {
+        Ok(asked) => asked,
+        Err(fault) => return end_unasked(&mut outside.sink, fault),
+    };
+    match asked {
+        Asked::Replay => play(
+            alloc,
+            Command::Replay,
+            &mut outside.source,
+            &mut outside.sink,
+        ),
+        Asked::Simulate => play(
+            alloc,
+            Command::Simulate,
+            &mut outside.source,
+            &mut outside.sink,
+        ),
+        Asked::Check => play(
+            alloc,
+            Command::Check,
+            &mut outside.source,
+            &mut outside.sink,
+        ),
+        Asked::Audit => run_audit(
+            alloc,
+            &mut outside.source,
+            &mut outside.sink,
+            &mut outside.why,
+        ),
+        Asked::Hub {
+            path,
+            sessions,
+            journal,
+            stop_file,
+        } => {
+            // The asker was made of it.
+            let _ = stop_file;
+            run_hub(
+                rt,
+                alloc,
+                HubWords {
+                    path,
+                    sessions,
+                    journal,
+                },
+                &mut outside.files,
+                &mut outside.place,
+                &mut outside.sink,
+                &mut outside.parts,
+                asker,
+            )
+        }
+        Asked::Node { path, script } => run_node_files(
+            alloc,
+            NodeWords { path, script },
+            &mut outside.sink,
+            &mut outside.files,
+            &mut outside.parts.clock,
+            &mut outside.parts.acceptor,
+            &mut outside.node,
+        ),
+        Asked::LiveNode { path } => run_live_file(
+            alloc,
+            path,
+            &mut outside.sink,
+            &mut outside.files,
+            &mut outside.parts.clock,
+            &mut outside.parts.acceptor,
+            &mut outside.node,
+            lines,
+        ),
+        Asked::Load { workers } => {
+            let kept = &mut outside.place.kept;
+            run_load(rt, alloc, workers, &mut outside.sink, kept)
+        }
+        Asked::TestHub { path } => {
+            let files = &mut outside.files;
+            test_hub(alloc, path, files, &mut outside.sink)
+        }
+        Asked::TestNode { path, script } => {
+            let words = NodeWords { path, script };
+            test_node(alloc, words, &mut outside.files, &mut outside.sink)
+        }
     }
 }

@@ -2,10 +2,11 @@
 //!
 //! All that the program does is `run` of `bsc_commands`, which `running` calls. `main` hands it standard input and output, the
 //! files, the clock, the random octets, the links and the threads of the machine that it is on, and the file that stops a hub, where
-//! the words name one (`stop_file`). Where the run ends with a fault, `tell` of
-//! `bsc_why` says on standard error why, by what was heard of these.
+//! the words name one (`stop_file`). Lines that a node is asked by as it runs are read by a thread of their own (`lines`). Where the
+//! run ends with a fault, `tell` of `bsc_why` says on standard error why, by what was heard of these.
 #![tactic(auto)]
 
+mod lines;
 mod parts;
 mod running;
 mod stop_file;
@@ -13,28 +14,30 @@ mod texts;
 mod threading;
 
 use bsc_cli::{Asked, ReadWords};
-use bsc_edge::{DiskJournals, Kind, Monotonic, Places, Unstarted, launch};
+use bsc_edge::{DiskJournals, JournalFile, Kind, Monotonic, Places, Unstarted, launch};
 use bsc_node_command::RandomWords;
 use bsc_node_run::NodeParts;
 use bsc_player::out_of_memory;
 use bsc_serve::ServingParts;
+use lines::{lines_of, tell_unread};
 use parts::{Rooms, rooms_of, sockets_of};
 use running::{acceptor_of, outside_of, run_outside, sink_of, source_of, spawner_of, tell_why};
 use std::alloc::Global;
+use std::io;
 use std::process::ExitCode;
 use std::sync::Arc;
-use std::{fs, io};
 use stop_file::{StopFile, stop_path};
 use texts::texts_of;
 use threading::{Job, SessionThread, thread_of};
 
 /// The session of a link of the machine.
-type RealJob = Job<HostRuntime, <HostRuntime as fs::Files>::File>;
+type RealJob = Job<HostRuntime, JournalFile<HostRuntime>>;
 
 /// The kind of the links that are accepted by these words: a node accepts direct connections.
 fn kind_of(read: &ReadWords<'_>) -> Kind {
     match read.asked {
         Ok(Asked::Node { .. }) => Kind::Direct,
+        Ok(Asked::LiveNode { .. }) => Kind::Direct,
         Ok(_) | Err(_) => Kind::Hub,
     }
 }
@@ -59,8 +62,12 @@ fn main(rt: HostRuntime) -> ExitCode {
         return ExitCode::from(out_of_memory(&mut sink));
     };
     let (waiter, dialer, door) = sockets;
+    let mut lines = match lines_of(&rt, alloc, &read, &waiter, rt.stdin(), &mut sink) {
+        Ok(lines) => lines,
+        Err(status) => return ExitCode::from(status),
+    };
     let begin = move |alloc: Global, places: &Arc<Places>, job: RealJob| -> Result<
-        SessionThread<HostRuntime, <HostRuntime as fs::Files>::File>,
+        SessionThread<HostRuntime, JournalFile<HostRuntime>>,
         Unstarted<RealJob>,
     > { thread_of(launch(&rt, alloc, places, job)) };
     let mut outside = outside_of(
@@ -79,7 +86,8 @@ fn main(rt: HostRuntime) -> ExitCode {
             journals: DiskJournals::new(rt),
         },
     );
-    let status = run_outside(&rt, alloc, &read, &mut outside, &mut stop_file);
+    let status = run_outside(&rt, alloc, &read, &mut outside, &mut stop_file, &mut lines);
+    tell_unread(&rt, status, lines);
     tell_why(
         &rt,
         alloc,

@@ -9,6 +9,8 @@ use bsc_edge::{
 };
 use bsc_hub::Kept;
 use bsc_hub_command::HubPlace;
+use bsc_input::LiveInput;
+use bsc_live_lines::{LiveLines, Refusals};
 use bsc_node_run::{NodeParts, Words};
 use bsc_outside::{Sink, Source, ToldSource, ToldWriter, WriterSink};
 use bsc_serve::{ServingParts, StopAsker};
@@ -103,18 +105,21 @@ pub(crate) fn run_outside<
     J: Journals<N>,
     P: Spawner<SessionJob<L, C, N>>,
     Q: StopAsker,
+    I: LiveInput + Drop,
+    T: Refusals + Drop,
 >(
     rt: &R,
     alloc: Global,
     read: &ReadWords<'_>,
     outside: &mut Outside<S, K, F, C, V, W, A, D, N, J, P>,
     asker: &mut Q,
+    lines: &mut LiveLines<I, T>,
 ) -> u8
     requires can { P.can_start outside.old.parts.spawner }
     requires kept { outside.old.place.kept.hub ≡ None }
     requires own { outside.old.place.own ≡ None }
 {
-    run(rt, alloc, read, outside, asker)
+    run(rt, alloc, read, outside, asker, lines)
 }
 
 /// Says on standard error why a run ended with this status, where that is a fault, by what was heard of the objects outside.

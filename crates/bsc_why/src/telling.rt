@@ -145,6 +145,10 @@ fn of_read(alloc: Global, heard: &Heard<'_>) -> Result<Option<String>, NoMemory>
         Ok(Asked::TestNode { path, script }) => {
             of_path(alloc, unread_of(heard, path, script), heard.file_error)
         }
+        Ok(Asked::LiveNode { path }) => match heard.file_error {
+            Some(error) => of_path(alloc, path, Some(error)),
+            None => Ok(Some(format!(in alloc; "standard input can't be read to its end")?)),
+        },
         Ok(_) => of_path(alloc, "standard input", heard.input_error),
         Err(_) => Ok(None),
     }
@@ -187,6 +191,7 @@ fn of_settings(alloc: Global, heard: &Heard<'_>) -> Result<Option<String>, NoMem
         Ok(Asked::Hub { path, .. }) => of_table(alloc, path, "hub", heard),
         Ok(Asked::TestHub { path }) => of_table(alloc, path, "hub", heard),
         Ok(Asked::Node { path, .. }) => of_table(alloc, path, "node", heard),
+        Ok(Asked::LiveNode { path }) => of_table(alloc, path, "node", heard),
         Ok(Asked::TestNode { path, .. }) => of_table(alloc, path, "node", heard),
         _ => Ok(None),
     }
