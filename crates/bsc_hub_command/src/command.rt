@@ -154,8 +154,10 @@ pub fn run_hub<
         × HubRuns (telling (Worked L.talk L.faults L.notices C.readings N.held N.faults) J.begins L.talk N.held N.faults)
         (record { settings = v; policy = policy; sessions = words.entry.sessions; prefix = option_map (λ p. p.now) words.entry.journal })
         place.new
-        (world_by (door_by A.left A.came A.waits A.quiets A.bound A.faults) (stock_by P.jobs P.ends P.out P.faults) J.calls J.faults parts.old (K.held sink.old) (asking_by Q.looks Q.asked Q.endings asker.old))
-        (world_by (door_by A.left A.came A.waits A.quiets A.bound A.faults) (stock_by P.jobs P.ends P.out P.faults) J.calls J.faults parts.new (K.held sink.new) (asking_by Q.looks Q.asked Q.endings asker.new)) result }
+        (world_by (door_by A.left A.came A.waits A.quiets A.bound A.faults) (stock_by P.jobs P.ends P.out P.faults)
+        J.calls J.faults parts.old (K.held sink.old) (asking_by Q.looks Q.asked Q.endings asker.old))
+        (world_by (door_by A.left A.came A.waits A.quiets A.bound A.faults) (stock_by P.jobs P.ends P.out P.faults)
+        J.calls J.faults parts.new (K.held sink.new) (asking_by Q.looks Q.asked Q.endings asker.new)) result }
 
     // Where none is made, the file wasn't read, its settings were refused, or memory ran out; and nothing was touched but the
     // files and the sink, the asker neither.

@@ -167,15 +167,19 @@ fn serve_hub<
     requires can { P.can_start parts.old.spawner }
     requires pass { IsCaller (arc_value made.hub.now) pass.old }
     ensures went { (NotBound (record { hub = arc_value made.entry.hub.now; first = pass.old; last = pass.new })
-        (world_by (door_by A.left A.came A.waits A.quiets A.bound A.faults) (stock_by P.jobs P.ends P.out P.faults) J.calls J.faults parts.old (K.held sink.old) (asking_by Q.looks Q.asked Q.endings asker.old))
-        (world_by (door_by A.left A.came A.waits A.quiets A.bound A.faults) (stock_by P.jobs P.ends P.out P.faults) J.calls J.faults parts.new (K.held sink.new) (asking_by Q.looks Q.asked Q.endings asker.new)) result
+        (world_by (door_by A.left A.came A.waits A.quiets A.bound A.faults) (stock_by P.jobs P.ends P.out P.faults)
+        J.calls J.faults parts.old (K.held sink.old) (asking_by Q.looks Q.asked Q.endings asker.old))
+        (world_by (door_by A.left A.came A.waits A.quiets A.bound A.faults) (stock_by P.jobs P.ends P.out P.faults)
+        J.calls J.faults parts.new (K.held sink.new) (asking_by Q.looks Q.asked Q.endings asker.new)) result
         × (N.held own.new ≡ N.held own.old))
         ⊎ Bound (telling (Worked L.talk L.faults L.notices C.readings N.held N.faults) J.begins L.talk N.held N.faults)
         (record { hub = arc_value made.entry.hub.now; first = pass.old; last = pass.new })
         (terms_in asked.entry)
         (N.held own.old) (N.held own.new)
-        (world_by (door_by A.left A.came A.waits A.quiets A.bound A.faults) (stock_by P.jobs P.ends P.out P.faults) J.calls J.faults parts.old (K.held sink.old) (asking_by Q.looks Q.asked Q.endings asker.old))
-        (world_by (door_by A.left A.came A.waits A.quiets A.bound A.faults) (stock_by P.jobs P.ends P.out P.faults) J.calls J.faults parts.new (K.held sink.new) (asking_by Q.looks Q.asked Q.endings asker.new)) result }
+        (world_by (door_by A.left A.came A.waits A.quiets A.bound A.faults) (stock_by P.jobs P.ends P.out P.faults)
+        J.calls J.faults parts.old (K.held sink.old) (asking_by Q.looks Q.asked Q.endings asker.old))
+        (world_by (door_by A.left A.came A.waits A.quiets A.bound A.faults) (stock_by P.jobs P.ends P.out P.faults)
+        J.calls J.faults parts.new (K.held sink.new) (asking_by Q.looks Q.asked Q.endings asker.new)) result }
     ensures write { result ≡ 4 → HasRisen (K.faults sink.old) (K.faults sink.new)
         ⊎ HasRisen (J.faults parts.old.journals) (J.faults parts.new.journals)
         ⊎ HasRisen (N.faults own.old) (N.faults own.new) }
@@ -235,8 +239,10 @@ fn serve_titled<
         (record { hub = arc_value made.entry.hub.now; first = pass.old; last = pass.new })
         (terms_in asked.entry)
         own.old own.new
-        (world_by (door_by A.left A.came A.waits A.quiets A.bound A.faults) (stock_by P.jobs P.ends P.out P.faults) J.calls J.faults parts.old (K.held sink.old) (asking_by Q.looks Q.asked Q.endings asker.old))
-        (world_by (door_by A.left A.came A.waits A.quiets A.bound A.faults) (stock_by P.jobs P.ends P.out P.faults) J.calls J.faults parts.new (K.held sink.new) (asking_by Q.looks Q.asked Q.endings asker.new)) result }
+        (world_by (door_by A.left A.came A.waits A.quiets A.bound A.faults) (stock_by P.jobs P.ends P.out P.faults)
+        J.calls J.faults parts.old (K.held sink.old) (asking_by Q.looks Q.asked Q.endings asker.old))
+        (world_by (door_by A.left A.came A.waits A.quiets A.bound A.faults) (stock_by P.jobs P.ends P.out P.faults)
+        J.calls J.faults parts.new (K.held sink.new) (asking_by Q.looks Q.asked Q.endings asker.new)) result }
     ensures write { result ≡ 4 → HasRisen (K.faults sink.old) (K.faults sink.new)
         ⊎ HasRisen (J.faults parts.old.journals) (J.faults parts.new.journals)
         ⊎ HasRisen (N.faults own.old) (N.faults own.new) }
@@ -282,14 +288,18 @@ fn serve_begun<
         ≡ record { hub = identity_of asked.settings.now; limits = limits_of asked.settings.now } }
     requires own { own.old ≡ None }
     ensures went { Unbegun (record { hub = arc_value made.entry.hub.now; first = pass.old; last = pass.new }) (terms_in asked.entry) own.new
-        (world_by (door_by A.left A.came A.waits A.quiets A.bound A.faults) (stock_by P.jobs P.ends P.out P.faults) J.calls J.faults parts.old (K.held sink.old) (asking_by Q.looks Q.asked Q.endings asker.old))
-        (world_by (door_by A.left A.came A.waits A.quiets A.bound A.faults) (stock_by P.jobs P.ends P.out P.faults) J.calls J.faults parts.new (K.held sink.new) (asking_by Q.looks Q.asked Q.endings asker.new)) result
+        (world_by (door_by A.left A.came A.waits A.quiets A.bound A.faults) (stock_by P.jobs P.ends P.out P.faults)
+        J.calls J.faults parts.old (K.held sink.old) (asking_by Q.looks Q.asked Q.endings asker.old))
+        (world_by (door_by A.left A.came A.waits A.quiets A.bound A.faults) (stock_by P.jobs P.ends P.out P.faults)
+        J.calls J.faults parts.new (K.held sink.new) (asking_by Q.looks Q.asked Q.endings asker.new)) result
         ⊎ Begun (telling (Worked L.talk L.faults L.notices C.readings N.held N.faults) J.begins L.talk N.held N.faults)
         (record { hub = arc_value made.entry.hub.now; first = pass.old; last = pass.new })
         (terms_in asked.entry)
         own.new
-        (world_by (door_by A.left A.came A.waits A.quiets A.bound A.faults) (stock_by P.jobs P.ends P.out P.faults) J.calls J.faults parts.old (K.held sink.old) (asking_by Q.looks Q.asked Q.endings asker.old))
-        (world_by (door_by A.left A.came A.waits A.quiets A.bound A.faults) (stock_by P.jobs P.ends P.out P.faults) J.calls J.faults parts.new (K.held sink.new) (asking_by Q.looks Q.asked Q.endings asker.new)) result }
+        (world_by (door_by A.left A.came A.waits A.quiets A.bound A.faults) (stock_by P.jobs P.ends P.out P.faults)
+        J.calls J.faults parts.old (K.held sink.old) (asking_by Q.looks Q.asked Q.endings asker.old))
+        (world_by (door_by A.left A.came A.waits A.quiets A.bound A.faults) (stock_by P.jobs P.ends P.out P.faults)
+        J.calls J.faults parts.new (K.held sink.new) (asking_by Q.looks Q.asked Q.endings asker.new)) result }
     ensures write { result ≡ 4 → HasRisen (K.faults sink.old) (K.faults sink.new)
         ⊎ HasRisen (J.faults parts.old.journals) (J.faults parts.new.journals) ⊎ HasFailed N.faults own.new }
     ensures link { RisesIf result 6 (A.faults parts.old.acceptor) (A.faults parts.new.acceptor) }
@@ -343,8 +353,10 @@ pub fn serve<
     ensures runs { (hub : _) → place.new.kept.hub ≡ Some hub →
         HubRuns (telling (Worked L.talk L.faults L.notices C.readings N.held N.faults) J.begins L.talk N.held N.faults)
         (terms_in asked.entry) place.new
-        (world_by (door_by A.left A.came A.waits A.quiets A.bound A.faults) (stock_by P.jobs P.ends P.out P.faults) J.calls J.faults parts.old (K.held sink.old) (asking_by Q.looks Q.asked Q.endings asker.old))
-        (world_by (door_by A.left A.came A.waits A.quiets A.bound A.faults) (stock_by P.jobs P.ends P.out P.faults) J.calls J.faults parts.new (K.held sink.new) (asking_by Q.looks Q.asked Q.endings asker.new)) result }
+        (world_by (door_by A.left A.came A.waits A.quiets A.bound A.faults) (stock_by P.jobs P.ends P.out P.faults)
+        J.calls J.faults parts.old (K.held sink.old) (asking_by Q.looks Q.asked Q.endings asker.old))
+        (world_by (door_by A.left A.came A.waits A.quiets A.bound A.faults) (stock_by P.jobs P.ends P.out P.faults)
+        J.calls J.faults parts.new (K.held sink.new) (asking_by Q.looks Q.asked Q.endings asker.new)) result }
 
     // Where none is made there was no memory, and nothing was touched but the sink.
     ensures unmade { place.new.kept.hub ≡ None → RanOut result (K.held sink.old) (K.held sink.new) }

@@ -4,7 +4,7 @@ ghost use Rattle.bsc_journal_laws.specs.Commands.{CommandAudits};
 ghost use Rattle.bsc_journal_laws.specs.Laws.{FilesInAnyOrder, JournalsAudit, LegalHasLines, LegalIsSmall, LinesFit, NotesAreEntries, NotesArePlaced, PlacesAreShared};
 ghost use Rattle.bsc_journal_laws.specs.Runs.{JournalsAreThere, RunAudits};
 
-use bsc_edge::{Clock, DiskJournal, DiskJournals, Journals, Link};
+use bsc_edge::{Clock, DiskJournal, DiskJournals, JournalFile, Journals, Link};
 use bsc_outside::Sink;
 use std::fs::Files;
 use std::io::Eprint;
@@ -82,7 +82,7 @@ pub fn command_audits<L: Link, C: Clock, N: Sink, J: Journals<N>>()
 
 /// A journal in a file that is begun under a prefix tells that it holds nothing yet. So of the program's journals the above holds
 /// with no premise on them.
-pub fn disk_journals_begin_empty<R: Files + Eprint>()
-    ensures { (prefix : List ℕ) (n : ℕ) (k : _) → ⟦<DiskJournals<R> as Journals<DiskJournal<R::File>>>⟧.begins (Some prefix) n k
-        → ⟦<DiskJournal<R::File> as Sink>⟧.held k ≡ Some [] }
+pub fn disk_journals_begin_empty<R: Files + Eprint + Copy>()
+    ensures { (prefix : List ℕ) (n : ℕ) (k : _) → ⟦<DiskJournals<R> as Journals<DiskJournal<JournalFile<R>>>>⟧.begins (Some prefix) n k
+        → ⟦<DiskJournal<JournalFile<R>> as Sink>⟧.held k ≡ Some [] }
 {}

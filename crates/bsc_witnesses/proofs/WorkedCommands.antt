@@ -1,6 +1,6 @@
 -- What there is outside the commands, and with which statuses they end, written out.
 -- No clause needs it: worked examples.
-use Rattle.std.proofs.Common.{◌≡◌, ℕ, ◌<◌, ⊎_elim, ◌⊎◌, inl, inr, false, List, [], ◌∷◌, length, Option, Some, None, refl, sym, ap, ◌∙◌, arith, lit<, lit≤}
+use Rattle.std.proofs.Common.{◌≡◌, ℕ, ◌<◌, ⊎_elim, ◌⊎◌, inl, inr, true, false, List, [], ◌∷◌, length, Option, Some, None, refl, sym, ap, ◌∙◌, arith, lit<, lit≤}
 use Rattle.bsc_node.specs.declared.node_event.NodeEvent.TheVariants.{Finish}
 use Rattle.bsc_node_run.specs.declared.due.Due.{Due}
 use Rattle.bsc_node_run.specs.declared.parts.NodeParts.{NodeParts}
@@ -13,10 +13,9 @@ use Rattle.bsc_serve.specs.Worlds.{Stock}
 use Rattle.bsc_hub_command.specs.declared.asked.HubAsked.{HubAsked}
 use Rattle.bsc_hub_command.specs.Served.{Door, HasFailed, door_by, stock_by, terms_in, world_by}
 use Rattle.bsc_node_command.specs.Comes.{AcceptorWorld, acceptor_world, node_world}
-use Rattle.bsc_cli.specs.Words.{audit, check, hub, replay}
-use Rattle.bsc_commands.specs.Statuses.{EndsBy}
+use Rattle.bsc_cli.specs.Words.{audit, check, hub, live_node, replay}
 use Rattle.bsc_commands.specs.declared.outside.Outside.{Outside}
-use Rattle.bsc_commands.specs.Outside.{LeavesAsker, TouchesOnly}
+use Rattle.bsc_commands.specs.Ends.{CutShort, EndsBy, LeavesAsker, LeavesLines, TouchesOnly}
 use Rattle.bsc_witnesses.proofs.Pieces.{unlike}
 
 -- ---- statuses
@@ -26,6 +25,22 @@ audit_ends = inr (inr (inr (inr (inr refl))))
 
 check_ends : EndsBy (Some check) 2
 check_ends = inr (inl refl)
+
+lines_end : EndsBy (Some (live_node [])) 8
+lines_end = inr (inr (inr (inr (inr (inr refl)))))
+
+lines_are_cut : CutShort (Some (live_node [])) true
+lines_are_cut = refl
+
+-- A script is read before a node runs.
+scripts_are_not_cut : CutShort (Some check) true → ⊥
+scripts_are_not_cut h = h
+
+takes_lines : LeavesLines {X = ℕ} (Some (live_node [])) 3 4
+takes_lines = tt
+
+takes_no_lines : LeavesLines {X = ℕ} (Some check) 3 4 → ⊥
+takes_no_lines h = unlike 4 3 refl h
 
 -- Where the words ask for nothing no line is refused.
 nothing_ends : EndsBy None 2 → ⊥
