@@ -31,8 +31,7 @@ port = {port}
 max_bvlc = {max_bvlc}
 rows = 64
 outbox = {outbox}
-connect_wait_ms = 60000
-"""
+{waits}"""
 
 
 # Without a log: what a hub says on standard error is compared.
@@ -65,11 +64,12 @@ def audit(octets, seconds=10 * PATIENCE):
 class Hub:
     """A hub that serves. `prepare` is done in its process before the program begins."""
 
-    def __init__(self, folder, *words, prefix=None, more="", max_bvlc=1600, outbox=64, prepare=None):
+    def __init__(self, folder, *words, prefix=None, more="", max_bvlc=1600, outbox=64, waits=None, prepare=None):
         self.folder, self.prefix, self.outbox = Path(folder), prefix, outbox
         self.port = free_port()
         settings = self.folder / f"hub.{self.port}.toml"
-        settings.write_text(SETTINGS.format(port=self.port, max_bvlc=max_bvlc, outbox=outbox) + more)
+        lines = "".join(f"{key} = {value}\n" for key, value in (waits or {"connect_wait_ms": 60000}).items())
+        settings.write_text(SETTINGS.format(port=self.port, max_bvlc=max_bvlc, outbox=outbox, waits=lines) + more)
         words = ["hub", settings, *words, *(["--journal", prefix] if prefix else [])]
         self.identity = Identity(OWN.vmac, OWN.device, max_bvlc, OWN.max_npdu)
         self.uri = f"ws://127.0.0.1:{self.port}/"
