@@ -444,7 +444,35 @@ async def prefixes(folder):
     return "prefixes that can't be are refused"
 
 
+# Links that never ask.
+
+async def silent(folder):
+    """Links whose peers never ask to join leave no file; and who asks behind them has one, with its number."""
+    links = 100
+    async with house(folder, "--sessions", links + 1, prefix=folder / "j") as it:
+        for _ in range(links):
+            guest = await it.opened("python", somebody("A"))
+            await guest.client.close()
+            await guest.closes(1000, "", "the reply to a close")
+        same(list(it.hub.journals()), [0], "the journals of links that never asked")
+        last = await it.joined("node", somebody("A"))
+        same(list(it.hub.journals()), [0, links + 1], "the journals with that of who asked")
+        await last.leaves()
+        same(await it.hub.ended(), 0, "the status of a hub most of whose links never asked")
+        same(len(it.hub.said().splitlines()), 1, "how many lines it says")
+        same(audit(it.hub.all_journals()), (0, "legal 3"), "the journals of one who joined and left")
+    return f"{links} links that never asked left no file"
+
+
 # Journals that can't grow.
+
+def loses(path, error):
+    return f"bsc: the journal {path} loses lines: {error}"
+
+
+def takes(path):
+    return f"bsc: the journal {path} takes lines again"
+
 
 async def until_it_is_closed(sender, receiver, octets):
     """Sends unicasts until the sender's link is closed, each answered before the next. Gives how many were given."""
@@ -487,6 +515,7 @@ async def limited(folder):
         if not line.startswith(part.decode()) and not re.fullmatch(rf"{line}\d+(?: (?:s(?:e(?:n(?:t ?)?)?)?)?)?", part.decode()):
             raise Failed(f"the last line of a journal is {part!r} in place of a first part of {line!r}")
         same(len(entries_of(whole)), given, "entries of a journal that lost one: its joining, and all but the last message")
+        same(it.hub.said().splitlines()[1:], [loses(f"{prefix}.1", "File too large (os error 27)"), takes(f"{prefix}.3")], "what it says")
         look_at_what_is_there(it.hub)
         rest, _ = whole_lines(it.hub)
         same(audit(rest), (10, f"missing {place}"), "the audit without the part of a line")
@@ -509,7 +538,8 @@ def small_disk(folder, octets, files):
 
 
 async def disk_gets_full(folder):
-    """Sessions end one by one, as they would write; so do new ones. Then no file can be made: the hub stops, with all that are there."""
+    """Sessions end one by one, as they would write; so do new ones, also where no file can be made. Who sends nothing stays, and once
+    there is space, who asks joins."""
     with small_disk(folder / "disk", 1 << 18, 6) as disk:
         if disk is None:
             return "no disk got full, since this user may not mount one"
@@ -528,22 +558,30 @@ async def disk_gets_full(folder):
             await c.beat(2)
             # One file more may be made: then none.
             await it.refused("python", somebody("D"), close=UNRECORDED)
-            begun = time.monotonic()
-            last = await it.opened("node", somebody("D"))
-            await last.closes(1001, "", "the close of who has no journal")
-            await c.is_asked_to_leave("the Disconnect-Request of a hub that stops")
-            same(await it.hub.ended(), 4, "the status of a hub that can't begin a journal")
-            took = time.monotonic() - begun
-            same(it.hub.told(), "", "what it tells")
-            same(it.hub.said().splitlines()[1:], [f"bsc: the journal {disk / 'j.6'} can't be made: No space left on device (os error 28)"], "what it says")
+            await it.refused("node", somebody("D"), close=UNRECORDED)
+            same(list(it.hub.journals()), [0, 1, 2, 3, 4, 5], "the numbers of the journals")
+            await c.beat(2)
+            # There is space again: nobody starts the hub anew.
+            subprocess.run(["mount", "-o", "remount,size=1M,nr_inodes=64", disk], check=True)
+            due = len(c.frames)
+            back = await it.joined("node", somebody("D"))
+            await back.give(one_to(c.who, 1))
+            await c.has(due + 1)
+            full = "No space left on device (os error 28)"
+            first, *more = it.hub.said().splitlines()[1:]
+            same(first, loses(disk / "j.1", full), "what it says of the first line that was lost")
+            same(more[-2:], [loses(disk / "j.6", full), takes(disk / "j.7")], "what it says of a file that can't be made, and then can")
+            # The second session may still have put a line into the last room of its file.
+            if more[:-2] and more[:-2] != [takes(disk / "j.2"), loses(disk / "j.2", full)]:
+                raise Failed(f"a hub on a full disk says {more}")
             look_at_what_is_there(it.hub)
         for file in disk.iterdir():
             file.unlink()
         # A disk that is full from the start: the hub line can't be put, and nothing is served.
         fill_up(disk / "all")
-        await is_refused(folder, disk / "late", f"bsc: the journal {disk / 'late.0'} can't be written")
+        await is_refused(folder, disk / "late", f"{loses(disk / 'late.0', full)}\nbsc: the journal {disk / 'late.0'} can't be written")
         same((disk / "late.0").stat().st_size, 0, "a journal on a full disk")
-    return f"a disk got full after {given} messages; the hub without a file more ended in {took:.1f} s"
+    return f"a disk got full after {given} messages, and the hub served on"
 
 
 def fill_up(file):
@@ -559,7 +597,7 @@ def fill_up(file):
 
 async def scenes(folder, messages, names):
     told = []
-    for scene, *words in ((course, messages), (kills,), (prefixes,), (limited,), (disk_gets_full,)):
+    for scene, *words in ((course, messages), (kills,), (prefixes,), (silent,), (limited,), (disk_gets_full,)):
         if names and scene.__name__ not in names:
             continue
         place = folder / scene.__name__

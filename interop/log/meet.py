@@ -2,6 +2,7 @@
 import asyncio
 import os
 import re
+import resource
 import socket
 import subprocess
 import sys
@@ -12,6 +13,8 @@ from pathlib import Path
 
 sys.path.insert(0, "interop/hub")
 import bvlc  # noqa: E402
+import websockets.exceptions  # noqa: E402
+import websockets.legacy.client  # noqa: E402
 from bvlc import Identity, Message  # noqa: E402
 from clients import PythonClient  # noqa: E402
 
@@ -49,7 +52,7 @@ A = Identity(bytes.fromhex("02000000000A"), b"\xAA" * 16)
 B = Identity(bytes.fromhex("02000000000B"), b"\xBB" * 16)
 C = Identity(bytes.fromhex("0200000000CD"), bytes(range(16)))
 
-LINE = re.compile(r"(\d{4}-\d\d-\d\dT\d\d:\d\d:\d\d\.\d{3}Z) hub (joined|takeover|nak|refused|denied|ended|unserved) link (\d+) "
+LINE = re.compile(r"(\d{4}-\d\d-\d\dT\d\d:\d\d:\d\d\.\d{3}Z) hub (joined|takeover|nak|refused|denied|ended|unserved|turned) link (\d+|-) "
                   r"connection (\d+|-) vmac ([0-9A-F]{12}|-) device ([0-9a-f]{8}(?:-[0-9a-f]{4}){3}-[0-9a-f]{12}|-) "
                   r"received (\d+) sent (\d+) cause (\S.*)")
 
@@ -66,7 +69,7 @@ def same(found, wanted, what):
 class Hub:
     """A hub that serves so many links."""
 
-    def __init__(self, work, links, settings, log, journal=None):
+    def __init__(self, work, links, settings, log, journal=None, descriptors=None):
         with socket.socket() as free:
             free.bind(("127.0.0.1", 0))
             self.port = free.getsockname()[1]
@@ -75,8 +78,12 @@ class Hub:
         words = [*PROGRAM, "hub", str(path), "--sessions", str(links)]
         if journal:
             words += ["--journal", str(work / journal)]
+        limit = None
+        if descriptors:
+            def limit():
+                resource.setrlimit(resource.RLIMIT_NOFILE, (descriptors, descriptors))
         with open(self.said, "w") as said:
-            self.process = subprocess.Popen(words, stdout=subprocess.PIPE, stderr=said, text=True,
+            self.process = subprocess.Popen(words, stdout=subprocess.PIPE, stderr=said, text=True, preexec_fn=limit,
                                             env={**os.environ, "BSC_LOG": log})
         self.begun = datetime.now(timezone.utc)
         while f" serves ws://127.0.0.1:{self.port}/" not in self.said.read_text():
@@ -204,6 +211,96 @@ DENIED = [
 ]
 
 
+# A request for a WebSocket, without its end.
+HEAD = (b"GET / HTTP/1.1\r\nHost: 127.0.0.1\r\nUpgrade: websocket\r\nConnection: Upgrade\r\nSec-WebSocket-Version: 13\r\n"
+        b"Sec-WebSocket-Key: dGhlIHNhbXBsZSBub25jZQ==\r\n")
+
+# So many handshakes are at work at most.
+PLACES = 256
+
+
+def stranger(hub, octets=b""):
+    """A stream on which these octets were sent, and nothing more is."""
+    stream = socket.create_connection(("127.0.0.1", hub.port), timeout=10)
+    stream.sendall(octets)
+    return stream
+
+
+def ended(stream):
+    """What comes on a stream until the hub ends it."""
+    came = b""
+    with stream:
+        try:
+            while octets := stream.recv(4096):
+                came += octets
+        except ConnectionResetError:
+            pass
+    return came
+
+
+async def strangers_are_turned_away(hub):
+    try:
+        await websockets.legacy.client.connect(Node(hub).uri, subprotocols=["dc.bsc.bacnet.org"])
+        raise Failed("a stream without the sub-protocol has a link")
+    except websockets.exceptions.InvalidStatusCode as why:
+        same(why.status_code, 400, "the status")
+    same(ended(stranger(hub, HEAD + b"X: " + b"x" * 17_000)), b"", "what comes behind a long head")
+    same(ended(stranger(hub, b"hello\r\n\r\n")), b"", "what comes behind no request")
+    same(ended(stranger(hub)), b"", "what comes on a silent stream")
+    silent = [stranger(hub, HEAD) for _ in range(PLACES + 1)]
+    for stream in silent:
+        same(ended(stream), b"", "what comes on a silent stream")
+    await (await Node(hub).joined(A)).end()
+
+
+async def strangers_take_all_descriptors(hub):
+    silent = [stranger(hub) for _ in range(2 * DESCRIPTORS)]
+    for stream in silent:
+        ended(stream)
+    await (await Node(hub).joined(A)).end()
+
+
+# A hub with so few descriptors takes fewer streams than come.
+DESCRIPTORS = 32
+
+# How many streams are turned away for each cause.
+TURNED = {"no sub-protocol": 1, "head too long": 1, "no handshake": 1, "handshakes full": 1, "too late": PLACES + 1}
+
+
+def turned(rows):
+    """How many streams the rows tell as turned away, by cause, and how many lines that takes."""
+    count, lines = {}, {}
+    for row in rows:
+        if row.startswith("turned "):
+            found = re.fullmatch(r"turned - - - - 0 0 (.*?)(?:, left out (\d+))?", row)
+            if not found:
+                raise Failed(f"a line of another form: {row}")
+            count[found[1]] = count.get(found[1], 0) + int(found[2] or 1)
+            lines[found[1]] = lines.get(found[1], 0) + 1
+    return count, lines
+
+
+def look_at_strangers(work):
+    """Each stream that is turned away is told of, with its cause, by ten lines a second and a count."""
+    for log in ("1", ""):
+        hub = Hub(work, 1, SETTINGS, log)
+        asyncio.run(strangers_are_turned_away(hub))
+        _, rows = hub.end()
+        if log != "1":
+            same(rows, [], "the lines without a log")
+            continue
+        count, lines = turned(rows)
+        same(count, TURNED, "the streams that were turned away")
+        # Those of the full table are late in two seconds at most, behind the one that was late before.
+        if lines["too late"] > 1 + 2 * 11:
+            raise Failed(f"{lines['too late']} lines say that a stream was late")
+    hub = Hub(work, 1, SETTINGS, "1", descriptors=DESCRIPTORS)
+    asyncio.run(strangers_take_all_descriptors(hub))
+    count, _ = turned(hub.end()[1])
+    same(sorted(count), ["no descriptor", "too late"], "the causes where there are few descriptors")
+    same(count["too late"], 2 * DESCRIPTORS, "the streams that were late")
+
+
 def by_link(rows):
     """The rows of each link in their order, link by link."""
     return sorted(rows, key=lambda row: int(row.split()[1]))
@@ -212,7 +309,7 @@ def by_link(rows):
 def look_at_page():
     """Each word and each cause that was met stands in the page, and its examples have the form of lines."""
     section = PAGE.read_text(encoding="utf-8").split("\n### The log\n")[1].split("\n## ")[0].split("\n### ")[0]
-    for row in ROWS + DENIED:
+    for row in ROWS + DENIED + [f"turned - - - - 0 0 {cause}" for cause in [*TURNED, "no descriptor"]]:
         event, *_, cause = row.split(" ", 7)
         cause = re.sub(r"^class \d+ code \d+ marker \d+ .*", "class C code C marker M", cause)
         for word in (event, re.sub(r" \d+$", " C", cause)):
@@ -239,8 +336,9 @@ def main():
             asyncio.run(a_policy_denies(hub))
             told, rows = hub.end()
             same(by_link(rows), DENIED if log == "1" else [], "the lines of a hub with a policy")
+        look_at_strangers(work)
     look_at_page()
-    return f"{2 * len(ROWS) + len(DENIED)} lines of 20 links are as they are due"
+    return f"{2 * len(ROWS) + len(DENIED)} lines of 20 links are as they are due, and {sum(TURNED.values())} streams that were turned away"
 
 
 try:
