@@ -54,10 +54,18 @@ pub mod AllDelivered
 pub mod BothSources
 pub mod Running
 pub mod DeliveredOnce
+pub mod Undialled
+pub mod Spending
+pub mod Costing
+pub mod SlotDials
+pub mod FailuresHeard
+pub mod Untold
+pub mod SameNetwork
 pub mod Carried
 pub mod Delivered
 mod WorkedCourse
 mod WorkedSource
 mod WorkedDirectSource
 mod WorkedShortAddress
+mod WorkedFailures
 pub mod Common

@@ -18,7 +18,7 @@ use Rattle.bsc_network.specs.Worlds.{World, Hub, Link, Node, Posted, history, ne
 use Rattle.bsc_network.specs.Outboxes.{Frame, frames, frames_of}
 use Rattle.bsc_network.specs.HubCalls.{taken_from}
 use Rattle.bsc_network.specs.Networks.{makes, world}
-use Rattle.bsc_network.specs.Courses.{MayMake, MayMakeAll, IsCourse}
+use Rattle.bsc_network.specs.Courses.{MayAddAll, MayMake, MayMakeAll, IsCourse}
 use Rattle.bsc_network.proofs.Places.{found-in}
 use Rattle.bsc_network_laws.specs.Carrying.{Sendings, npdus}
 use Rattle.bsc_network_laws.specs.Deliveries.{Sends}
@@ -95,7 +95,7 @@ sent-makes cast S T w t r after below sends =
     kept-step (AllSent S) t w.steps (sent_stays S t.now w.steps t.step sends) w (knows-begun T w t after below r.timely r.holds r.sides) r.sent
 
 -- all that is known at the beginning of a step
-known : (cast : Cast) (S : Sendings) (T : ℕ) (w : World) (t : TimedStep) → Runs cast S T w.steps w → T ≤ t.now → t.now < 2 ^ 62 → KnowsAll cast t.now w.steps (begun w t)
+pub known : (cast : Cast) (S : Sendings) (T : ℕ) (w : World) (t : TimedStep) → Runs cast S T w.steps w → T ≤ t.now → t.now < 2 ^ 62 → KnowsAll cast t.now w.steps (begun w t)
 known cast S T w t r after below = (knows-begun T w t after below r.timely r.holds r.sides, casts-same cast w (begun w t) refl refl r.casts)
 
 named-done : (cast : Cast) (S : Sendings) (T : ℕ) (w : World) (t : TimedStep) → Runs cast S T w.steps w → T ≤ t.now → t.now < 2 ^ 62 → Named cast (done w t)
@@ -214,14 +214,14 @@ one_step cast fit S T w t r after below sends = record {
 }
 
 -- the step at its place among all steps
-step-at : (before : List TimedStep) (t : TimedStep) (ts : List TimedStep) → slice_get (map (λ x. x.step) (before ++ t ∷ ts)) (length before) ≡ Some t.step
+pub step-at : (before : List TimedStep) (t : TimedStep) (ts : List TimedStep) → slice_get (map (λ x. x.step) (before ++ t ∷ ts)) (length before) ≡ Some t.step
 step-at [] t ts = refl
 step-at (x ∷ before) t ts = step-at before t ts
 
-one_longer : (before : List TimedStep) (t : TimedStep) → length before + 1 ≡ length (before ++ t ∷ [])
+pub one_longer : (before : List TimedStep) (t : TimedStep) → length before + 1 ≡ length (before ++ t ∷ [])
 one_longer before t = sym (length-append before (t ∷ []))
 
-runs-makes : (cast : Cast) → IsFit cast → (S : Sendings) (T place : ℕ) (w : World) (t : TimedStep) → Runs cast S T place w → T ≤ t.now → t.now < 2 ^ 62 → IsCounted S place t.step
+pub runs-makes : (cast : Cast) → IsFit cast → (S : Sendings) (T place : ℕ) (w : World) (t : TimedStep) → Runs cast S T place w → T ≤ t.now → t.now < 2 ^ 62 → IsCounted S place t.step
     → Runs cast S t.now (place + 1) (makes w t)
 runs-makes cast fit S T place w t r after below sends =
     subst (λ p. Runs cast S t.now (p + 1) (makes w t)) r.place_is
@@ -319,33 +319,36 @@ forwards-new as_made w is = record { sources = λ j p f at. absurd (none j p f a
         let made = found-in new_hub (slice_get as_made j) at.hub (sym (slice_get-map new_hub as_made j) ∙ ap (λ (hs : List Hub). slice_get hs j) (sym is) ∙ at.here) in
         no_posted p at.posted (ap (λ (h : Hub). slice_get h.posted p) made.2 ∙ at.at)
 
+-- Each network before its first step.
+pub runs-new : (added : List Added) (steps : List TimedStep) → MayAddAll [] added → Runs (cast_of added) (Sends steps) 0 0 (new_world added)
+runs-new added steps may = record {
+  place_is = refl;
+  ways = tt;
+  holds = holds-new added;
+  timely = timely-new (nodes added);
+  sides = tt;
+  sent = tt;
+  casts = casts-new added;
+  named = record { links = tt; outboxes = outboxes-new (hubs added) };
+  joins = λ l j h k c side conn. absurd (no_link l k side.link);
+  by_links = by_links-new added;
+  looks = looks-new added;
+  legally = record { legal = legal-new (hubs added); stay = λ l j h k c side conn. absurd (no_link l k side.link) };
+  passes = passes-new (Sends steps) added;
+  made = made_well added may;
+  ends = ends-new added;
+  direct = λ l x way k j d. absurd (no_link l x d.link);
+  put_before = λ l way i f p. absurd (no_link l p.0 p.1);
+  put_once = λ l way i f m on j g p q same. absurd (no_link l p.0 p.1);
+  receipts = ([], tt);
+  forwards = forwards-new (hubs added) (new_world added) refl;
+  there = record { within = λ l j x here leads. absurd (no_link l x here) };
+  every = all-new added;
+  from = λ law whole. tt;
+  diallers = joined-new (cast_of added) (new_world added) (hubs added);
+}
+
 -- Each network, after any steps that may be made.
 pub runs : (added : List Added) (steps : List TimedStep) → IsCourse added steps → (T : ℕ) × (place : ℕ) × Runs (cast_of added) (Sends steps) T place (world added steps)
 runs added steps course =
-    runs-on (cast_of added) (nodes_fit added course.added_all) steps [] steps 0 (new_world added) refl
-    (record {
-      place_is = refl;
-      ways = tt;
-      holds = holds-new added;
-      timely = timely-new (nodes added);
-      sides = tt;
-      sent = tt;
-      casts = casts-new added;
-      named = record { links = tt; outboxes = outboxes-new (hubs added) };
-      joins = λ l j h k c side conn. absurd (no_link l k side.link);
-      by_links = by_links-new added;
-      looks = looks-new added;
-      legally = record { legal = legal-new (hubs added); stay = λ l j h k c side conn. absurd (no_link l k side.link) };
-      passes = passes-new (Sends steps) added;
-      made = made_well added course.added_all;
-      ends = ends-new added;
-      direct = λ l x way k j d. absurd (no_link l x d.link);
-      put_before = λ l way i f p. absurd (no_link l p.0 p.1);
-      put_once = λ l way i f m on j g p q same. absurd (no_link l p.0 p.1);
-      receipts = ([], tt);
-      forwards = forwards-new (hubs added) (new_world added) refl;
-      there = record { within = λ l j x here leads. absurd (no_link l x here) };
-      every = all-new added;
-      from = λ law whole. tt;
-      diallers = joined-new (cast_of added) (new_world added) (hubs added);
-    }) course.made_all
+    runs-on (cast_of added) (nodes_fit added course.added_all) steps [] steps 0 (new_world added) refl (runs-new added steps course.added_all) course.made_all

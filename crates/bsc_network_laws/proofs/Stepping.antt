@@ -149,7 +149,7 @@ lets-arrives w D R M l way =
 
 -- ---- the loss of a link
 
-lets-loses : (B : World) (D : WorldStep) (R : World → World → Type 0) → Lets B D R → (w : World) (l : ℕ) (way : Way) (k : ℕ) → R w (loses l way k w)
+pub lets-loses : (B : World) (D : WorldStep) (R : World → World → Type 0) → Lets B D R → (w : World) (l : ℕ) (way : Way) (k : ℕ) → R w (loses l way k w)
 lets-loses B D R M w l way k =
     found R (node_at w k) (λ n. with_found (name_of l way n) (λ name. comes k None (Lost name))) w (M.none w) (λ n here.
     found R (name_of l way n) (λ name. comes k None (Lost name)) w (M.none w) (λ name is.

@@ -7,3 +7,4 @@ pub mod Connecting
 pub mod Passing
 pub mod Peers
 pub mod Delivering
+pub mod Telling

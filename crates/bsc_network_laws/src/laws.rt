@@ -6,6 +6,7 @@ ghost use Rattle.bsc_network_laws.specs.Naming.{NamesAreRight};
 ghost use Rattle.bsc_network_laws.specs.Connecting.{ConnectionsAreOfDiallers, ConnectionsJoinedByTheirLinks, ConnectionsJoinByLinks, HistoriesAreLegal};
 ghost use Rattle.bsc_network_laws.specs.Passing.{OutboxesHaveWhatWasSent, WhatComesDownWasSent};
 ghost use Rattle.bsc_network_laws.specs.Peers.{PeersAreThere};
+ghost use Rattle.bsc_network_laws.specs.Telling.{FailuresAreAllHeard};
 
 /// The NPDUs on the way down from a hub are those that were taken from the outbox of its link's connection, in order, each
 /// once, with its place.
@@ -57,6 +58,11 @@ pub fn what_comes_down_was_sent()
 /// The peer with which a slot is established is the node or the hub at the other end of the slot's link.
 pub fn peers_are_there()
     ensures { PeersAreThere }
+{}
+
+/// However many more dials that failed the nodes of a network are told of, it is the same network: no step leaves one untold.
+pub fn failures_are_all_heard()
+    ensures { FailuresAreAllHeard }
 {}
 
 /// Of each node the deliveries are all that it has delivered by its log, in order, each once, and no more.

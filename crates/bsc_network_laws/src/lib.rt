@@ -8,7 +8,7 @@ mod laws;
 
 pub use laws::{
     connections_are_of_diallers, connections_join_by_links, connections_joined_by_their_links,
-    deliveries_are_all, histories_are_legal, names_are_right, networks_deliver_what_was_sent,
-    none_is_delivered_twice, outboxes_have_what_was_sent, peers_are_there, puts_what_was_sent,
-    taken_comes_down, what_comes_down_was_sent,
+    deliveries_are_all, failures_are_all_heard, histories_are_legal, names_are_right,
+    networks_deliver_what_was_sent, none_is_delivered_twice, outboxes_have_what_was_sent,
+    peers_are_there, puts_what_was_sent, taken_comes_down, what_comes_down_was_sent,
 };
