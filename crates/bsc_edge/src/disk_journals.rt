@@ -22,12 +22,16 @@ use std::sync::Arc;
 /// Journals in files: that of number N under the prefix PREFIX is the file `PREFIX.N`. A file that is there already isn't written
 /// into: then the journal isn't begun, and a line on standard error says so. The file of number 0, of the hub itself, is made anew as
 /// its journal is begun. That of a session is made anew at its first line: so who joins no hub leaves no file, and where none can be
-/// made, the session loses its line, and the hub serves on. Without a prefix a journal drops all. They tell which of them were begun.
+/// made, the session loses its line, and the hub serves on. Without a prefix a journal drops all. They tell which of them were begun,
+/// whether lines were lost, and to how many octets their files are limited.
 #[derive(Drop)]
 pub struct DiskJournals<R> {
     rt: R,
     faults: u64,
     calls: Past<Begun>,
+    lost: Past<bool>,
+    limits: Past<u64>,
+    limit: Option<u64>,
     /// What the journals share, once one was begun.
     losses: Option<Arc<Losses>>,
 }
@@ -57,11 +61,17 @@ impl<R: fs::Files + Eprint> DiskJournals<R> {
     pub fn new(rt: R) -> DiskJournals<R>
         ensures faults { result.faults ≡ 0 }
         ensures calls { result.calls.items ≡ [] }
+        ensures lost { result.lost.items ≡ [] }
+        ensures limits { result.limits.items ≡ [] }
+        ensures limit { result.limit ≡ None }
     {
         DiskJournals {
             rt,
             faults: 0,
             calls: Past::new(),
+            lost: Past::new(),
+            limits: Past::new(),
+            limit: None,
             losses: None,
         }
     }
@@ -98,6 +108,14 @@ fn losses_of(alloc: Global, kept: &mut Option<Arc<Losses>>) -> Result<Arc<Losses
     Ok(losses)
 }
 
+/// How many lines were lost since this was last asked.
+fn count_in(losses: &Option<Arc<Losses>>) -> u64 {
+    match losses {
+        Some(losses) => losses.take_count(),
+        None => 0,
+    }
+}
+
 /// Whether a file is there, by what was found at its path: a link that leads nowhere is there too. Where it can't be looked at, it
 /// shows as it is made.
 fn is_there(found: &io::Result<Metadata>) -> bool
@@ -109,7 +127,9 @@ fn is_there(found: &io::Result<Metadata>) -> bool
 /// Begins the journal of the hub itself, whose file was made or wasn't.
 fn begin_own<R: fs::Files + Eprint + Copy>(
     rt: &R,
+    alloc: Global,
     path: String,
+    limit: Option<u64>,
     losses: Arc<Losses>,
     made: io::Result<R::File>,
 ) -> Result<DiskJournal<JournalFile<R>>, LinkFault>
@@ -119,7 +139,14 @@ fn begin_own<R: fs::Files + Eprint + Copy>(
     ensures fresh { IfOk result (λ k. k.faults ≡ 0) }
 {
     match made {
-        Ok(file) => Ok(DiskJournal::into_file(JournalFile::made(*rt, path, file, losses))),
+        Ok(file) => Ok(DiskJournal::into_file(JournalFile::new(
+            *rt,
+            alloc,
+            path,
+            Some(file),
+            limit,
+            losses,
+        ))),
         Err(error) => {
             if error.kind() == ErrorKind::OutOfMemory {
                 return Err(LinkFault::NoMemory);
@@ -133,7 +160,9 @@ fn begin_own<R: fs::Files + Eprint + Copy>(
 /// Begins the journal of a session, unless its file is there. It isn't made yet.
 fn begin_later<R: fs::Files + Eprint + Copy>(
     rt: &R,
+    alloc: Global,
     path: String,
+    limit: Option<u64>,
     losses: Arc<Losses>,
     is_there: bool,
 ) -> Result<DiskJournal<JournalFile<R>>, LinkFault>
@@ -147,7 +176,7 @@ fn begin_later<R: fs::Files + Eprint + Copy>(
         tell_there(rt, path.as_str());
         return Err(LinkFault::Failed);
     }
-    Ok(DiskJournal::into_file(JournalFile::later(*rt, path, losses)))
+    Ok(DiskJournal::into_file(JournalFile::new(*rt, alloc, path, None, limit, losses)))
 }
 
 /// This answer. Where it is a fault of the outside, that is counted.
@@ -169,6 +198,7 @@ fn begin_at<R: fs::Files + Eprint + Copy>(
     alloc: Global,
     prefix: Option<&str>,
     number: u64,
+    limit: Option<u64>,
     kept: &mut Option<Arc<Losses>>,
     faults: &mut u64,
 ) -> Result<DiskJournal<JournalFile<R>>, LinkFault>
@@ -189,10 +219,13 @@ fn begin_at<R: fs::Files + Eprint + Copy>(
     };
     if number == 0 {
         let made = File::create_new(rt, path.as_str());
-        return counted(begin_own(rt, path, losses, made), faults);
+        return counted(begin_own(rt, alloc, path, limit, losses, made), faults);
     }
     let found = fs::symlink_metadata(rt, path.as_str());
-    counted(begin_later(rt, path, losses, is_there(&found)), faults)
+    counted(
+        begin_later(rt, alloc, path, limit, losses, is_there(&found)),
+        faults,
+    )
 }
 
 impl<R: fs::Files + Eprint + Copy> Journals<DiskJournal<JournalFile<R>>> for DiskJournals<R> {
@@ -201,6 +234,10 @@ impl<R: fs::Files + Eprint + Copy> Journals<DiskJournal<JournalFile<R>>> for Dis
     ghost begins = { λ prefix _ j. BeginsEmpty prefix (⟦<DiskJournal<JournalFile<R>> as Sink>⟧.held j) };
 
     ghost calls = { λ j. Some j.calls.items };
+
+    ghost lost = { λ j. Some j.lost.items };
+
+    ghost limits = { λ j. Some j.limits.items };
 
     fn begin(
         &mut self,
@@ -213,6 +250,7 @@ impl<R: fs::Files + Eprint + Copy> Journals<DiskJournal<JournalFile<R>>> for Dis
             alloc,
             prefix,
             number,
+            self.limit,
             &mut self.losses,
             &mut self.faults,
         );
@@ -222,5 +260,18 @@ impl<R: fs::Files + Eprint + Copy> Journals<DiskJournal<JournalFile<R>>> for Dis
             answer: &answer,
         });
         answer
+    }
+
+    fn count_lost(&mut self) -> bool {
+        let count = count_in(&self.losses);
+        self.faults = self.faults.saturating_add(count);
+        let are_lost = count > 0;
+        self.lost.add(&are_lost);
+        are_lost
+    }
+
+    fn set_limit(&mut self, octets: u64) {
+        self.limit = Some(octets);
+        self.limits.add(&octets);
     }
 }

@@ -2,12 +2,14 @@
 ghost use Rattle.std.specs.Prelude.{◌≡◌, ◌≤◌, [], ◌∷◌, Err};
 ghost use Rattle.bsc_edge.specs.declared.fault.LinkFault.{LinkFault};
 ghost use Rattle.bsc_edge.specs.declared.said.Said.{Said};
+ghost use Rattle.bsc_edge.specs.declared.settled.Settled.{Settled as SettledType};
 ghost use Rattle.bsc_edge.specs.declared.notice.Notice.{Notice};
 ghost use Rattle.bsc_edge.specs.Told.{Grows, Stays, IsQuiet, fault_in};
 ghost use Rattle.bsc_outside.specs.Faults.{HasRisen};
 
 use crate::fault::LinkFault;
 use crate::incoming::Incoming;
+use crate::settled::Settled;
 use std::alloc::Global;
 
 /// A link to a peer. Its meaning is its talk: one list in the order of the calls.
@@ -41,6 +43,18 @@ pub trait Link {
     /// doesn't know, false.
     fn is_idle(&self) -> bool {
         false
+    }
+
+    /// Goes on with the dial by which the link was made, without waiting, and says how it is. A link is open from its first day where
+    /// its dialer or acceptor waited for its handshake.
+    fn settle(&mut self, alloc: Global) -> Settled
+        ensures told { talk self.new ≡ talk self.old }
+        ensures unwoken { notices self.new ≡ notices self.old }
+        ensures later { faults self.old ≤ faults self.new }
+        ensures failed { result ≡ SettledType.Failed → HasRisen (faults self.old) (faults self.new) }
+        ensures quiets { quiets self.old ≤ quiets self.new }
+    {
+        Settled::Open
     }
 
     /// Puts a message.

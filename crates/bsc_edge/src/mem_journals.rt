@@ -10,7 +10,7 @@ use bsc_outside::MemSink;
 use std::alloc::Global;
 
 /// Journals in memory, each with room for so many octets, with a prefix or without. The calls of `begin` whose numbers
-/// are in a list fail, and of each journal the writes whose numbers are in another.
+/// are in a list fail, and of each journal the writes whose numbers are in another. They count no lost line, and limit no file.
 #[derive(Drop)]
 pub struct MemJournals<'a> {
     room: usize,
@@ -69,4 +69,10 @@ impl<'a> Journals<MemJournal<'a>> for MemJournals<'a> {
             Err(_) => Err(LinkFault::NoMemory),
         }
     }
+
+    fn count_lost(&mut self) -> bool {
+        false
+    }
+
+    fn set_limit(&mut self, _octets: u64) {}
 }

@@ -10,6 +10,7 @@ use crate::link::Link;
 use crate::notice::Notice;
 use crate::said::Said;
 use crate::saying::Saying;
+use crate::settled::Settled;
 use bsc_past::Past;
 use std::alloc::Global;
 
@@ -89,6 +90,10 @@ impl<L: Link> Link for ToldLink<L> {
 
     fn is_idle(&self) -> bool {
         self.link.is_idle()
+    }
+
+    fn settle(&mut self, alloc: Global) -> Settled {
+        self.link.settle(alloc)
     }
 
     fn put(&mut self, alloc: Global, m: &[u8]) -> Result<(), LinkFault> {

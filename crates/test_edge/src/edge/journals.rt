@@ -70,6 +70,86 @@ fn in_files(rt: HostRuntime) -> Result<(), Fail> {
     Ok(())
 }
 
+/// Whether the file at this path has these octets.
+fn has(rt: HostRuntime, path: &str, octets: &[u8]) -> Result<bool, Fail> {
+    let held = fs::read(&rt, path)?;
+    Ok(held.as_slice() == octets)
+}
+
+/// No file of these journals is to have more than 8 octets. The third line and the fifth go into other files, and one of 12 octets has
+/// a file of its own. Together they are the lines.
+#[test]
+fn limited(rt: HostRuntime) -> Result<(), Fail> {
+    let alloc = rt.alloc();
+    let folder = folder_of(rt, "limited")?;
+    let prefix = format!(in alloc; "{folder}/hub")?;
+    let own = format!(in alloc; "{folder}/hub.0")?;
+    let own_newer = format!(in alloc; "{folder}/hub.0.1")?;
+    let path = format!(in alloc; "{folder}/hub.7")?;
+    let newer = format!(in alloc; "{folder}/hub.7.1")?;
+    let long = format!(in alloc; "{folder}/hub.7.2")?;
+    let last = format!(in alloc; "{folder}/hub.7.3")?;
+    let mut journals = DiskJournals::new(rt);
+    journals.set_limit(8);
+    let (Ok(mut first), Ok(mut journal)) = (
+        journals.begin(alloc, Some(prefix.as_str()), 0),
+        journals.begin(alloc, Some(prefix.as_str()), 7),
+    ) else {
+        panic!(rt; "they are begun");
+    };
+    assert_eq!(rt; first.write(b"hub line\n"), Ok(()));
+    assert_eq!(rt; first.write(b"stop\n"), Ok(()));
+    assert!(rt; has(rt, own.as_str(), b"hub line\n")?);
+    assert!(rt; has(rt, own_newer.as_str(), b"stop\n")?);
+    assert_eq!(rt; journal.write(b"one\n"), Ok(()));
+    assert_eq!(rt; journal.write(b"two\n"), Ok(()));
+    assert!(rt; !fs::exists(&rt, newer.as_str())?);
+    assert_eq!(rt; journal.write(b"3\n"), Ok(()));
+    assert_eq!(rt; journal.write(b"four and five\n"), Ok(()));
+    assert_eq!(rt; journal.write(b"six\n"), Ok(()));
+    assert!(rt; has(rt, path.as_str(), b"one\ntwo\n")?);
+    assert!(rt; has(rt, newer.as_str(), b"3\n")?);
+    assert!(rt; has(rt, long.as_str(), b"four and five\n")?);
+    assert!(rt; has(rt, last.as_str(), b"six\n")?);
+    assert!(rt; !journal.has_failed());
+    assert!(rt; !journals.count_lost());
+    fs::remove_dir_all(&rt, folder.as_str())?;
+    Ok(())
+}
+
+/// A line that is lost is counted once, whichever journal it was of, and one that is put isn't. A file that is there already isn't
+/// written over where a journal would go on in it: then that line is lost.
+#[test]
+fn lost_lines(rt: HostRuntime) -> Result<(), Fail> {
+    let alloc = rt.alloc();
+    let folder = folder_of(rt, "lost_lines")?;
+    let prefix = format!(in alloc; "{folder}/hub")?;
+    let path = format!(in alloc; "{folder}/hub.1")?;
+    let newer = format!(in alloc; "{folder}/hub.2.1")?;
+    let mut journals = DiskJournals::new(rt);
+    assert!(rt; !journals.count_lost());
+    journals.set_limit(4);
+    let (Ok(mut first), Ok(mut second)) = (
+        journals.begin(alloc, Some(prefix.as_str()), 1),
+        journals.begin(alloc, Some(prefix.as_str()), 2),
+    ) else {
+        panic!(rt; "they are begun");
+    };
+    assert!(rt; !journals.count_lost());
+    fs::write(&rt, path.as_str(), "there\n")?;
+    assert_eq!(rt; first.write(b"one\n"), Err(Failed));
+    assert!(rt; journals.count_lost());
+    assert!(rt; !journals.count_lost());
+    assert_eq!(rt; second.write(b"two\n"), Ok(()));
+    assert!(rt; !journals.count_lost());
+    fs::write(&rt, newer.as_str(), "there\n")?;
+    assert_eq!(rt; second.write(b"three\n"), Err(Failed));
+    assert!(rt; journals.count_lost());
+    assert!(rt; has(rt, newer.as_str(), b"there\n")?);
+    fs::remove_dir_all(&rt, folder.as_str())?;
+    Ok(())
+}
+
 /// Where its file can't be made, a journal of a session is begun and loses its lines, until the file can be. A file that came since
 /// it was begun isn't written over. The journal of number 0 isn't begun.
 #[test]
