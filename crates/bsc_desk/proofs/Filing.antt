@@ -1,5 +1,5 @@
 -- Rows that are filed stay so after each change.
--- It serves clauses of functions of `desk` and `rows`.
+-- It serves clauses of functions of `desk`, `looking` and `rows`.
 use Rattle.std.proofs.Common.{◌≡◌, ℕ, ◌+◌, ◌==◌, nat_le, Bool, true, false, not, ◌&&◌, ◌||◌, List, [], ◌∷◌, ◌++◌, length, map, filter, Option, Some, None, is_none, refl, ap, sym, ◌∙◌, subst, arith}
 use Rattle.std.specs.List.{list_all, position, remove, AllByRecursion}
 use Rattle.std.specs.Option.{option_or}

@@ -1,5 +1,5 @@
--- Rows that are finished.
--- It serves the clauses of `finish_each`, `finish_one` and `finish`.
+-- Rows that are finished, and rows that change one after the other.
+-- It serves clauses of functions of `looking` and `rows`.
 use Rattle.std.proofs.Common.{◌≡◌, ℕ, zero, suc, ◌+◌, ◌<◌, true, false, List, [], ◌∷◌, length, get_or, Option, Some, None, is_some, refl, ap, sym, ◌∙◌, subst, arith}
 use Rattle.std.proofs.Math.ListN.{set}
 use Rattle.std.specs.List.{list_any, position}
@@ -29,27 +29,26 @@ pub finish_nowhere : (conn : Option ℕ) (c : ℕ) (ending : End) (rows : List R
     → EachBecomes (λ r s. FinishesIf (is_row conn r) ending r s) rows rows
 finish_nowhere conn c ending rows is none = stay conn ending rows (ap (λ (o : Option ℕ). list_any (is_row o) rows) is ∙ sym (position_any (has_number c) rows) ∙ ap is_some none)
 
--- the first i rows are finished, and the others as they were
-abbrev pub FinishedTo : End → ℕ → List Row → List Row → Type 0
-FinishedTo ending zero rows now = now ≡ rows
-FinishedTo ending (suc i) (r ∷ rows) (s ∷ now) = FinishesIf true ending r s × FinishedTo ending i rows now
-FinishedTo ending (suc i) rows now = ⊥
+-- R says how each of the first i rows became what it is now, and the others are as they were
+abbrev pub DoneTo : (Row → Row → Type 0) → ℕ → List Row → List Row → Type 0
+DoneTo R zero rows now = now ≡ rows
+DoneTo R (suc i) (r ∷ rows) (s ∷ now) = R r s × DoneTo R i rows now
+DoneTo R (suc i) rows now = ⊥
 
-pub finish_next : (ending : End) (i : ℕ) (rows now : List Row) (r s : Row) → i < length rows → FinishedTo ending i rows now → FinishesIf true ending (get_or now i r) s
-    → FinishedTo ending (i + 1) rows (set now i s)
-finish_next ending i rows now r s within h f = subst (λ k. FinishedTo ending k rows (set now i s)) (let e : suc i ≡ i + 1 = omega arith in e) (next i rows now within h f)
+pub done_next : (R : Row → Row → Type 0) (i : ℕ) (rows now : List Row) (r s : Row) → i < length rows → DoneTo R i rows now → R (get_or now i r) s → DoneTo R (i + 1) rows (set now i s)
+done_next R i rows now r s within h f = subst (λ k. DoneTo R k rows (set now i s)) (let e : suc i ≡ i + 1 = omega arith in e) (next i rows now within h f)
   where
-    next : (i : ℕ) (rows now : List Row) → i < length rows → FinishedTo ending i rows now → FinishesIf true ending (get_or now i r) s → FinishedTo ending (suc i) rows (set now i s)
+    next : (i : ℕ) (rows now : List Row) → i < length rows → DoneTo R i rows now → R (get_or now i r) s → DoneTo R (suc i) rows (set now i s)
     next zero [] now within h f = absurd (omega arith)
-    next zero (y ∷ rows) now within h f = subst (λ (l : List Row). FinishedTo ending 1 (y ∷ rows) (set l 0 s)) (sym h) (subst (λ (l : List Row). FinishesIf true ending (get_or l 0 r) s) h f, refl)
+    next zero (y ∷ rows) now within h f = subst (λ (l : List Row). DoneTo R 1 (y ∷ rows) (set l 0 s)) (sym h) (subst (λ (l : List Row). R (get_or l 0 r) s) h f, refl)
     next (suc i) (y ∷ rows) (n ∷ now) within h f = (h.0, next i rows now (omega arith) h.1 f)
     next (suc i) [] now within h f = absurd h
     next (suc i) (y ∷ rows) [] within h f = absurd h
 
-pub finish_end : (ending : End) (i : ℕ) (rows now : List Row) → i ≡ length rows → FinishedTo ending i rows now → EachBecomes (λ r s. FinishesIf true ending r s) rows now
-finish_end ending i rows now all h = end rows now (subst (λ k. FinishedTo ending k rows now) all h)
+pub done_all : (R : Row → Row → Type 0) (i : ℕ) (rows now : List Row) → i ≡ length rows → DoneTo R i rows now → EachBecomes R rows now
+done_all R i rows now all h = end rows now (subst (λ k. DoneTo R k rows now) all h)
   where
-    end : (rows now : List Row) → FinishedTo ending (length rows) rows now → EachBecomes (λ r s. FinishesIf true ending r s) rows now
+    end : (rows now : List Row) → DoneTo R (length rows) rows now → EachBecomes R rows now
     end [] [] h = tt
     end [] (s ∷ now) h = cc
     end (r ∷ rows) (s ∷ now) h = (h.0, end rows now h.1)

@@ -17,6 +17,7 @@ pub mod Rowed
 pub mod Connects
 pub mod Leaves
 pub mod Meets
+pub mod Resting
 pub mod Casts
 pub mod Fared
 pub mod Forwards

@@ -1,5 +1,5 @@
 -- The live connections are those of the open rows.
--- It serves clauses of functions of `connecting`, `desk` and `rows`.
+-- It serves clauses of functions of `connecting`, `desk`, `looking` and `rows`.
 use Rattle.std.proofs.Common.{◌≡◌, ◌≢◌, inl, inr, ◌==◌, ℕ, Bool, true, false, ◌&&◌, ◌||◌, cond, List, [], ◌∷◌, map, filter, find, is_some, Option, Some, None, is_none, MatchOption}
 use Rattle.std.proofs.Common.{refl, ap, sym, ◌∙◌, subst}
 use Rattle.std.specs.List.{list_any, position, AllByRecursion}

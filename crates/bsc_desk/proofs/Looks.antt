@@ -1,5 +1,5 @@
 -- What the looks at a connection found: with an entry more, where nobody has joined yet, and the newest of it.
--- It serves clauses of functions of `connecting`, `desk` and `rows`.
+-- It serves clauses of functions of `connecting`, `desk`, `looking` and `rows`.
 use Rattle.std.proofs.Common.{◌≡◌, ℕ, ◌+◌, ◌<◌, ◌==◌, Bool, true, false, not, ◌||◌, cond, List, [], ◌∷◌, ◌++◌, length, map, filter, flat_map, fold, is_none, is_some, Some}
 use Rattle.std.proofs.Common.{option_to_list, refl, ap, sym, ◌∙◌, arith, append-nil, length-append}
 use Rattle.std.specs.List.{list_any}

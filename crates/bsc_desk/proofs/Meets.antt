@@ -1,5 +1,5 @@
 -- An outlet that meets the desk.
--- It serves the clauses of `caller_of` and `meet_at`.
+-- It serves clauses of functions of `desk` and `looking`.
 use Rattle.std.proofs.Common.{◌≡◌, ◌≢◌, ℕ, zero, suc, ◌<◌, ◌==◌, ◌&&◌, Bool, true, false, cond, List, [], ◌∷◌, length, find, get_or, is_none, Option, Some, is_some, refl, ap, sym, ◌∙◌, subst, arith}
 use Rattle.std.proofs.Math.ListN.{set}
 use Rattle.std.specs.List.{list_any, position, AllByRecursion}

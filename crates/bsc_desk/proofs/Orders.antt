@@ -1,5 +1,5 @@
 -- Lists in an order, and the order of octets.
--- It serves clauses of functions of `connecting`, `desk`, `directory` and `rows`.
+-- It serves clauses of most source files here.
 use Rattle.std.proofs.Common.{◌≡◌, ◌<◌, ℕ, zero, suc, Bool, true, false, cond, List, [], ◌∷◌, ◌++◌, length, map, filter, get_or, refl, ap, sym, ◌∙◌, arith}
 use Rattle.std.specs.Bool.{⊤}
 use Rattle.std.specs.List.{AllByRecursion, list_all}

@@ -1,5 +1,5 @@
 -- Rows of which one is taken out.
--- It serves clauses of functions of `desk` and `rows`.
+-- It serves clauses of functions of `desk`, `looking` and `rows`.
 use Rattle.std.proofs.Common.{◌≡◌, ◌≢◌, ℕ, zero, suc, ◌==◌, Bool, true, false, not, cond, List, [], ◌∷◌, map, filter, find, Option, Some, None, refl, ap, sym, ◌∙◌}
 use Rattle.std.specs.List.{position, remove, AllByRecursion}
 use Rattle.std.proofs.lemmas.Bool.{eqb-true, ne_eqb}

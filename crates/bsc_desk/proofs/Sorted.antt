@@ -1,5 +1,5 @@
 -- Connections that are filed one after the other in the order of their octets.
--- It serves clauses of functions of `connecting`, `desk`, `directory` and `rows`.
+-- It serves clauses of most source files here.
 use Rattle.std.proofs.Common.{◌≡◌, ◌<◌, ◌≤◌, ◌+◌, ◌⊎◌, inl, inr, ℕ, zero, suc, Bool, true, false, cond, List, [], ◌∷◌, ◌++◌, length, filter, fold, get_or, take, drop, slice_get}
 use Rattle.std.proofs.Common.{Option, Some, None, refl, ap, sym, ◌∙◌, subst, arith}
 use Rattle.std.specs.List.{AllByRecursion}

@@ -1,5 +1,5 @@
 -- The desk stands for a history with one entry more.
--- It serves clauses of functions of `connecting`, `desk` and `rows`.
+-- It serves clauses of functions of `connecting`, `desk`, `looking` and `rows`.
 use Rattle.std.proofs.Common.{◌≡◌, inl, inr, ℕ, ◌+◌, Bool, true, false, not, cond, List, [], ◌∷◌, ◌++◌, length, map, filter, Option, Some, None, option_to_list, refl, ap, sym, ◌∙◌}
 use Rattle.std.proofs.Common.{subst, length-append, append-nil}
 use Rattle.std.specs.List.{list_any, position, AllByRecursion}

@@ -1,5 +1,5 @@
 -- Rows that change row by row, or at one place.
--- It serves clauses of functions of `connecting`, `desk`, `forwarding` and `rows`.
+-- It serves clauses of most source files here.
 use Rattle.std.proofs.Common.{◌≡◌, ◌≢◌, ℕ, zero, suc, ◌<◌, ◌==◌, Bool, true, false, cond, List, [], ◌∷◌, length, map, find, get_or, Option, Some, refl, ap, sym, ◌∙◌, subst, arith}
 use Rattle.std.proofs.Math.ListN.{set}
 use Rattle.std.specs.List.{position, AllByRecursion}

@@ -24,6 +24,10 @@ pub record IsSameRow (r s : Row) : Type 0 where
   pub ends : s.ending ≡ r.ending
   pub pushes : SamePushes r.inlet s.inlet
 
+-- The same, and its inlet knows what it knew.
+abbrev pub Rests : Row → Row → Type 0
+Rests r s = IsSameRow r s × (known_taken s.inlet ≡ known_taken r.inlet)
+
 -- Row by row, what R says of the row before and the row after.
 abbrev pub EachBecomes : (Row → Row → Type 0) → List Row → List Row → Type 0
 EachBecomes R [] [] = ⊤

@@ -16,3 +16,4 @@ pub mod Bounds
 pub mod Orders
 pub mod Rising
 pub mod Directories
+pub mod Looking

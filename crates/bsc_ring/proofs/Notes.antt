@@ -1,5 +1,5 @@
 -- Notes between the two ends keep the rule, and what the ends know of each other after them.
--- It serves the clauses of `tell_each_other`.
+-- It serves the clauses of `load_head` and `tell_each_other`.
 use Rattle.std.proofs.Common.{◌≡◌, ℕ, ◌≤◌, Bool, true, false, List, [], ◌∷◌, ◌++◌, length, drop, set, is_some, Option, Some, None, refl, sym, ◌∙◌, ap, subst, arith, append-nil, slice_index}
 use Rattle.std.proofs.lemmas.List.{drop_at}
 use Rattle.std.proofs.lemmas.Bool.{true≢false}

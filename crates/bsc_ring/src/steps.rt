@@ -38,6 +38,16 @@ pub(crate) fn lay_out(
     Ok((table, seat, other))
 }
 
+/// What the head word says. One load, of which the seat keeps nothing.
+pub(crate) fn load_head(table: &RingTable, seat: &mut RingSeat) -> u64
+    requires placed { seat.old.table_id ≡ table.now.shared.table_id }
+    requires sized { seat.old.table_id.words ≡ 3 }
+    ensures placed { seat.new.table_id ≡ seat.old.table_id }
+    ensures same { seat.new.me ≡ seat.old.me }
+{
+    table.shared.load::<Confirm>(seat, HEAD_WORD)
+}
+
 /// Puts a frame into the slot at the tail, unless the ring is full. One load, one exchange, one store.
 pub(crate) fn put_in(
     table: &RingTable,

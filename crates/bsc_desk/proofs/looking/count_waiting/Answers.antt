@@ -1,0 +1,14 @@
+use Rattle.std.proofs.Common.{◌≡◌, length, arith}
+use Rattle.bsc_desk.specs.Changes.{Rests}
+use Rattle.bsc_desk.proofs.Finishing.{done_all, done_next}
+use Rattle.bsc_desk.proofs.looking.count_waiting.Goals as goal
+
+pub loop-row-preserved : goal.loop-row-preserved
+loop-row-preserved c = done_next Rests c.loop-row.row-index c.args.rows.now c.loop-row.rows c.row-item.result c.waiting-more.new.self c.loop-row-test.true c.loop-row.invariant c.waiting-more.ensures
+
+pub returns : goal.returns
+returns c =
+    let past = c.loop-row-test.false in
+    let end = c.loop-row.auto.row-index-end in
+    let all : c.loop-row.row-index ≡ length c.args.rows.now = omega arith in
+    done_all Rests c.loop-row.row-index c.args.rows.now c.loop-row.rows all c.loop-row.invariant
