@@ -7,3 +7,4 @@ mod Ending
 mod Alone
 mod Waking
 mod Looking
+mod Shown

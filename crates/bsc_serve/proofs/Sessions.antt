@@ -1,5 +1,5 @@
 -- Sessions that have ended: their callers are taken in, and all that these entered stands before the Stop.
--- It serves clauses of functions of `laws`, `serving` and `taking_in`.
+-- It serves clauses of functions of `accepting`, `laws`, `serving` and `taking_in`.
 use Rattle.std.proofs.Common.{inl, inr, ◌≡◌, ℕ, ◌+◌, ◌≤◌, List, [], ◌∷◌, ◌++◌, length, take, Option, None, Ok, Err, refl, ap, sym, ◌∙◌, subst, arith, append_assoc, append-nil}
 use Rattle.std.specs.Prelude.{◌≢◌, ◌⊎◌, Result, map, true}
 use Rattle.std.proofs.lemmas.List.{length-map, map-append, take_at}
@@ -53,7 +53,7 @@ module _ {L C N : Type 0} where
       let goes = w.served.goes in
       ((subst (λ (y : Hub). IsCaller y d.pass) ours.0 goes.caller, goes.number), goes.took_in ∙ ours.1)
 
-drawn_same : (h : Hub) (w p q : Pass) → newest_number q ≡ newest_number p → (newest_number w ≤ newest_number p) ⊎ (newest_number p ≡ limit_of h) → (newest_number w ≤ newest_number q)
+pub drawn_same : (h : Hub) (w p q : Pass) → newest_number q ≡ newest_number p → (newest_number w ≤ newest_number p) ⊎ (newest_number p ≡ limit_of h) → (newest_number w ≤ newest_number q)
     ⊎ (newest_number q ≡ limit_of h)
 drawn_same h w p q e (inl x) = inl (omega (arith, e, x))
 drawn_same h w p q e (inr x) = inr (e ∙ x)

@@ -2,7 +2,8 @@
 ghost use Rattle.std.specs.Prelude.{◌≡◌, ◌≤◌, ◌≢◌, ◌<◌, ◌^◌, ◌∷◌, ℕ, [], Some, option_map};
 ghost use Rattle.std.specs.Arc.{arc_value};
 ghost use Rattle.bsc_outside.specs.Faults.{HasRisen};
-ghost use Rattle.bsc_turn.specs.Passes.{own_list};
+ghost use Rattle.bsc_turn.specs.Histories.{StartsWith};
+ghost use Rattle.bsc_turn.specs.Passes.{own_list, seen};
 ghost use Rattle.bsc_hub.specs.Passing.{IsCaller};
 ghost use Rattle.bsc_serve.specs.declared.accepted.Accepted.{Accepted};
 ghost use Rattle.bsc_serve.specs.declared.halt.Halt.{Halt};
@@ -11,6 +12,7 @@ ghost use Rattle.bsc_edge.specs.Told.{Grows, Stays};
 ghost use Rattle.bsc_session.specs.Jobs.{Worked, policy_of};
 ghost use Rattle.bsc_serve.specs.Asking.{Looked, asking_by};
 ghost use Rattle.bsc_serve.specs.Inner.{Accepts, TakesOn, Taken, fault_halt, has_asked};
+ghost use Rattle.bsc_serve.specs.Showing.{Shown};
 ghost use Rattle.bsc_serve.specs.Terms.{all_terms};
 ghost use Rattle.bsc_serve.specs.Worlds.{ServeWorld};
 
@@ -19,6 +21,7 @@ use crate::bounds::WAIT_MS;
 use crate::halt::Halt;
 use crate::parts::ServingParts;
 use crate::served::ServedHub;
+use crate::showing::show;
 use crate::starting::start_session;
 use crate::stop_asker::StopAsker;
 use crate::taking_in::take_ended;
@@ -90,12 +93,15 @@ fn take_next<
           out = P.out parts.new.spawner;
           unstarted = P.faults parts.new.spawner;
         }) tally.new result }
+    ensures grows { StartsWith (seen pass.new) (seen pass.old) }
     ensures asked { Grows (A.waits parts.old.acceptor) (A.waits parts.new.acceptor) (WAIT_MS ∷ []) }
     ensures bound { Stays (A.bound parts.old.acceptor) (A.bound parts.new.acceptor) }
     ensures later { A.faults parts.old.acceptor ≤ A.faults parts.new.acceptor }
     ensures failed { result ≡ Some Halt.AcceptFault → HasRisen (A.faults parts.old.acceptor) (A.faults parts.new.acceptor) }
     ensures unbegun { result ≡ Some Halt.JournalFault → HasRisen (J.faults parts.old.journals) (J.faults parts.new.journals) }
     ensures journals_later { J.faults parts.old.journals ≤ J.faults parts.new.journals }
+    ensures unlost { J.lost parts.new.journals ≡ J.lost parts.old.journals }
+    ensures unlimited { J.limits parts.new.journals ≡ J.limits parts.old.journals }
 {
     match parts.acceptor.next(served.alloc, WAIT_MS) {
         Ok(Arrived::Link(link)) => match start_session(served, pass, parts, link) {
@@ -112,7 +118,8 @@ fn take_next<
 }
 
 /// Takes links until as many have arrived as are asked for, the stop is asked for, or something halts it. Before
-/// each it looks whether the stop is asked for, and takes in the callers of the sessions that have ended.
+/// each it looks whether the stop is asked for, shows the asker how the hub is doing, where it wants that, and takes in the callers
+/// of the sessions that have ended.
 pub(crate) fn accept_all<
     R: Wait,
     C: Clock + Drop,
@@ -160,12 +167,15 @@ pub(crate) fn accept_all<
         }) result }
     ensures looked { Looked (own_list pass.old) (A.waits parts.old.acceptor) (A.waits parts.new.acceptor) (asking_by Q.looks Q.asked Q.endings asker.old)
         (asking_by Q.looks Q.asked Q.endings asker.new) (has_asked result) }
+    ensures shown { Shown (seen pass.new) (Q.statuses asker.old) (Q.statuses asker.new) }
     ensures fits { (n : ℕ) → served.entry.terms.sessions ≡ Some n → n < 2 ^ 64 }
     ensures bound { Stays (A.bound parts.old.acceptor) (A.bound parts.new.acceptor) }
     ensures later { A.faults parts.old.acceptor ≤ A.faults parts.new.acceptor }
     ensures failed { result ≡ Accepted.Halted Halt.AcceptFault → HasRisen (A.faults parts.old.acceptor) (A.faults parts.new.acceptor) }
     ensures unbegun { result ≡ Accepted.Halted Halt.JournalFault → HasRisen (J.faults parts.old.journals) (J.faults parts.new.journals) }
     ensures journals_later { J.faults parts.old.journals ≤ J.faults parts.new.journals }
+    ensures unlost { J.lost parts.new.journals ≡ J.lost parts.old.journals }
+    ensures unlimited { J.limits parts.new.journals ≡ J.limits parts.old.journals }
 {
     let rt = served.rt;
     let mut tally = Tally::of(served.terms.sessions);
@@ -173,7 +183,9 @@ pub(crate) fn accept_all<
         if tally.is_full() {
             return Accepted::All(tally.unstarted);
         }
-        if asker.asks(&*pass) {
+        let is_asked = asker.asks(&*pass);
+        show(rt, served.hub, pass, asker, is_asked);
+        if is_asked {
             return Accepted::Asked(tally.unstarted);
         }
         take_ended::<R, C, L, N, J, P>(rt, served.hub, pass, &mut parts.spawner, false);

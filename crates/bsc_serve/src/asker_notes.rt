@@ -5,18 +5,19 @@ ghost use Rattle.bsc_turn.specs.Passes.{own_list};
 ghost use Rattle.bsc_serve.specs.Asking.{look_at};
 
 use crate::session_look::SessionLook;
-use bsc_hub::Pass;
+use bsc_hub::{HubStatus, Pass};
 use bsc_octets::Octets;
 use bsc_outside::Sink;
 use bsc_past::{Happened, Past};
 
-/// What an asker tells of itself: how often it asked, how it was looked at, and what was written when it was told of an end. It
-/// takes no memory but for the count.
+/// What an asker tells of itself: how often it asked, how it was looked at, what it was shown, and what was written when it was
+/// told of an end. It takes no memory but for the count.
 #[derive(Drop)]
 pub struct AskerNotes {
     pub(crate) asked: u64,
     pub(crate) looks: Past<SessionLook>,
     pub(crate) endings: Past<Option<Octets>>,
+    pub(crate) statuses: Past<HubStatus>,
 }
 
 /// What was answered at a look with this pass.
@@ -48,6 +49,14 @@ impl<K: Sink> Happened<Option<Octets>> for Written<'_, K> {
     ghost happened = { λ w. K.held w.0.now ∷ [] };
 }
 
+/// What was shown.
+#[derive(Drop)]
+struct ShownOnce(HubStatus);
+
+impl Happened<HubStatus> for ShownOnce {
+    ghost happened = { λ s. s.0 ∷ [] };
+}
+
 /// The count of those that asked, behind this answer.
 fn counted(asked: u64, answer: bool) -> u64
     ensures asked { answer ≡ true → HasRisen asked result }
@@ -66,11 +75,13 @@ impl AskerNotes {
         ensures asked { result.asked ≡ 0 }
         ensures looks { result.looks.items ≡ [] }
         ensures endings { result.endings.items ≡ [] }
+        ensures statuses { result.statuses.items ≡ [] }
     {
         AskerNotes {
             asked: 0,
             looks: Past::new(),
             endings: Past::new(),
+            statuses: Past::new(),
         }
     }
 
@@ -80,9 +91,20 @@ impl AskerNotes {
         ensures asked { asks ≡ true → HasRisen self.old.asked self.new.asked }
         ensures later { self.old.asked ≤ self.new.asked }
         ensures endings { self.new.endings ≡ self.old.endings }
+        ensures statuses { self.new.statuses ≡ self.old.statuses }
     {
         self.asked = counted(self.asked, asks);
         self.looks.note(&LookWith { pass, asks });
+    }
+
+    /// The hub is doing so.
+    pub fn shown(&mut self, status: HubStatus)
+        ensures statuses { self.new.statuses.items ≡ self.old.statuses.items ++ status ∷ [] }
+        ensures looks { self.new.looks ≡ self.old.looks }
+        ensures asked { self.new.asked ≡ self.old.asked }
+        ensures endings { self.new.endings ≡ self.old.endings }
+    {
+        self.statuses.note(&ShownOnce(status));
     }
 
     /// A hub has ended, and this was written.
@@ -90,6 +112,7 @@ impl AskerNotes {
         ensures endings { self.new.endings.items ≡ self.old.endings.items ++ K.held written.now ∷ [] }
         ensures looks { self.new.looks ≡ self.old.looks }
         ensures asked { self.new.asked ≡ self.old.asked }
+        ensures statuses { self.new.statuses ≡ self.old.statuses }
     {
         self.endings.note(&Written(written));
     }

@@ -3,7 +3,7 @@ ghost use Rattle.std.specs.Prelude.{◌≡◌, [], Some};
 
 use crate::asker_notes::AskerNotes;
 use crate::stop_asker::StopAsker;
-use bsc_hub::Pass;
+use bsc_hub::{HubStatus, Pass};
 use bsc_outside::Sink;
 
 /// Never asks for a stop.
@@ -17,16 +17,24 @@ impl StopAsker for NeverAsks {
         false
     }
 
+    fn wants(&mut self, _is_last: bool) -> bool {
+        false
+    }
+
+    fn show(&mut self, _status: HubStatus) {}
+
     fn end<K: Sink>(&mut self, _written: &K) {}
 }
 
-/// Asks for a stop once it was looked at so often. It tells how it was looked at, and what was written when it was told of an end.
+/// Asks for a stop once it was looked at so often. It tells how it was looked at, what it was shown, which it always wants, and
+/// what was written when it was told of an end.
 #[derive(Drop)]
 pub struct MemAsker {
     /// At which look it asks first, counted from 1.
     from: u64,
     looks: u64,
     ends: u64,
+    shows: u64,
     notes: AskerNotes,
 }
 
@@ -38,11 +46,13 @@ impl MemAsker {
         ensures asked { result.notes.asked ≡ 0 }
         ensures seen { result.notes.looks.items ≡ [] }
         ensures endings { result.notes.endings.items ≡ [] }
+        ensures statuses { result.notes.statuses.items ≡ [] }
     {
         MemAsker {
             from,
             looks: 0,
             ends: 0,
+            shows: 0,
             notes: AskerNotes::new(),
         }
     }
@@ -50,6 +60,11 @@ impl MemAsker {
     /// How often it was looked at.
     pub fn looks(&self) -> u64 {
         self.looks
+    }
+
+    /// How often it was shown how the hub is doing.
+    pub fn shows(&self) -> u64 {
+        self.shows
     }
 
     /// How often it was told of an end.
@@ -65,11 +80,22 @@ impl StopAsker for MemAsker {
 
     ghost endings = { λ a. Some a.notes.endings.items };
 
+    ghost statuses = { λ a. Some a.notes.statuses.items };
+
     fn asks(&mut self, pass: &Pass) -> bool {
         self.looks = self.looks.saturating_add(1);
         let answer = self.from <= self.looks;
         self.notes.answered(answer, pass);
         answer
+    }
+
+    fn wants(&mut self, _is_last: bool) -> bool {
+        true
+    }
+
+    fn show(&mut self, status: HubStatus) {
+        self.shows = self.shows.saturating_add(1);
+        self.notes.shown(status);
     }
 
     fn end<K: Sink>(&mut self, written: &K) {

@@ -2,7 +2,7 @@
 ghost use Rattle.std.specs.Prelude.{◌≡◌, ◌≤◌, ◌⊎◌, ◌∷◌, [], IsErr, Err, Some, option_map};
 ghost use Rattle.std.specs.Arc.{arc_value};
 ghost use Rattle.bsc_outside.specs.Faults.{HasRisen};
-ghost use Rattle.bsc_turn.specs.Passes.{number_of, own_list};
+ghost use Rattle.bsc_turn.specs.Passes.{number_of, own_list, seen};
 ghost use Rattle.bsc_hub.specs.Passing.{IsCaller};
 ghost use Rattle.bsc_desk.specs.Entries.{stop_entry};
 ghost use Rattle.bsc_serve.specs.declared.end.ServeEnd.{ServeEnd};
@@ -14,6 +14,7 @@ ghost use Rattle.bsc_session.specs.Jobs.{Worked, policy_of};
 ghost use Rattle.bsc_serve.specs.Asking.{AskedSo, asking_by};
 ghost use Rattle.bsc_serve.specs.Inner.{AllOurs, Stopped, StopsFirst, asked_end, halt_end, lost_or, request_end, stop_end, whole_end};
 ghost use Rattle.bsc_serve.specs.Serving.{Serving, stop_notes};
+ghost use Rattle.bsc_serve.specs.Showing.{Shown};
 ghost use Rattle.bsc_serve.specs.Terms.{all_terms};
 ghost use Rattle.bsc_serve.specs.Waking.{WakesAll, stop_place};
 
@@ -23,6 +24,7 @@ use crate::end::ServeEnd;
 use crate::halt::Halt;
 use crate::parts::ServingParts;
 use crate::served::ServedHub;
+use crate::showing::show;
 use crate::stop_asker::StopAsker;
 use crate::stop_told::StopTold;
 use crate::taking_in::{await_all, take_ended};
@@ -295,6 +297,9 @@ pub fn serve_on<
     ensures asked { AskedSo (own_list pass.old) (A.waits parts.old.acceptor) (A.waits parts.new.acceptor) (asking_by Q.looks Q.asked Q.endings asker.old)
         (asking_by Q.looks Q.asked Q.endings asker.new) result }
 
+    // What the asker was shown was so by a first part of the history that the pass has then seen.
+    ensures shown { Shown (seen pass.new) (Q.statuses asker.old) (Q.statuses asker.new) }
+
     // The pass is still one of the hub.
     ensures caller { IsCaller (arc_value served.entry.hub.now) pass.new }
 
@@ -313,11 +318,16 @@ pub fn serve_on<
         ⊎ HasRisen (N.faults own.old) (N.faults own.new) }
     ensures journals_later { J.faults parts.old.journals ≤ J.faults parts.new.journals }
     ensures own_later { N.faults own.old ≤ N.faults own.new }
+
+    // No file of a journal was limited, and whether lines were lost wasn't asked.
+    ensures unlost { J.lost parts.new.journals ≡ J.lost parts.old.journals }
+    ensures unlimited { J.limits parts.new.journals ≡ J.limits parts.old.journals }
 {
     await_all(served.rt, &mut parts.spawner);
     match accept_all(served, pass, parts, asker) {
         Accepted::All(unstarted) => {
             take_ended::<R, C, L, N, J, P>(served.rt, served.hub, pass, &mut parts.spawner, true);
+            show(served.rt, served.hub, pass, asker, true);
             let stopped = finish(served.rt, served.alloc, served.hub, pass, own);
             parts.acceptor.wake_all(place_of(&stopped.answer));
             done(unstarted, stopped)

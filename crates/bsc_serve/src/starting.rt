@@ -108,6 +108,8 @@ pub(crate) fn start_session<
         }) result }
     ensures unbegun { result ≡ Err LinkFault.Failed → HasRisen (J.faults parts.old.journals) (J.faults parts.new.journals) }
     ensures journals_later { J.faults parts.old.journals ≤ J.faults parts.new.journals }
+    ensures unlost { J.lost parts.new.journals ≡ J.lost parts.old.journals }
+    ensures unlimited { J.limits parts.new.journals ≡ J.limits parts.old.journals }
     ensures acceptor { parts.new.acceptor ≡ parts.old.acceptor }
 {
     let ServedHub {

@@ -1,12 +1,13 @@
-use Rattle.std.proofs.Common.{false, ◌≤◌}
+use Rattle.std.proofs.Common.{◌≡◌, false, ◌≤◌}
 use Rattle.std.specs.Prelude.{option_map}
 use Rattle.std.specs.Arc.{arc_value}
-use Rattle.bsc_turn.specs.Passes.{own_list}
+use Rattle.bsc_turn.specs.Passes.{own_list, seen}
 use Rattle.bsc_hub.specs.Passing.{IsCaller}
 use Rattle.bsc_edge.specs.Told.{Stays}
 use Rattle.bsc_session.specs.Jobs.{Worked, policy_of}
 use Rattle.bsc_serve.specs.Asking.{Looked, asking_by}
 use Rattle.bsc_serve.specs.Inner.{Taken}
+use Rattle.bsc_serve.specs.Showing.{Shown}
 use Rattle.bsc_serve.specs.Terms.{all_terms}
 use Rattle.bsc_serve.proofs.accepting.accept_all.Given as goal
 
@@ -47,4 +48,7 @@ invariant-loop g l =
     × (A.faults l.fn.parts.acceptor ≤ A.faults l.parts.acceptor)
     × Stays (A.bound l.fn.parts.acceptor) (A.bound l.parts.acceptor)
     × (g.J.Journals.faults l.fn.parts.journals ≤ g.J.Journals.faults l.parts.journals)
+    × (g.J.Journals.lost l.parts.journals ≡ g.J.Journals.lost l.fn.parts.journals)
+    × (g.J.Journals.limits l.parts.journals ≡ g.J.Journals.limits l.fn.parts.journals)
+    × Shown (seen l.pass) (Q.statuses l.fn.asker) (Q.statuses l.asker)
     × ((goal.iterator-loop g).can_next l.iterator' × (goal.iterator-loop g).is_finite l.iterator')

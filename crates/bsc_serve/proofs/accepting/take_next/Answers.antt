@@ -11,6 +11,8 @@ use Rattle.bsc_serve.specs.Terms.{all_terms}
 use Rattle.bsc_serve.specs.Worlds.{ServeWorld}
 use Rattle.bsc_serve.proofs.Arrivals.{came_link, leaves_link}
 use Rattle.bsc_serve.proofs.Taking.{halted_cut, halted_now, taken_more, taken_still}
+use Rattle.bsc_turn.specs.Passes.{seen}
+use Rattle.bsc_turn.proofs.Beginnings.{starts_self}
 use Rattle.bsc_serve.proofs.accepting.take_next.Goals as goal
 
 pub returns-in-Ok-clause-taken : goal.returns-in-Ok-clause-taken
@@ -195,3 +197,20 @@ pub returns-in-Err-clause-asked : goal.returns-in-Err-clause-asked
 returns-in-Err-clause-asked g c =
     let A = g.A.Acceptor in
     subst (λ (a : g.row.A.Denot). Grows (A.waits c.args.parts.now.acceptor) (A.waits a) (WAIT_MS ∷ [])) (sym c.start_session.ensures.acceptor) c.in-Ok-Link.ensures.waits
+
+-- ---- the own pass has seen all that it had
+
+pub returns-in-Ok-clause-grows : goal.returns-in-Ok-clause-grows
+returns-in-Ok-clause-grows g c = c.in-Ok.ensures.fares.went.grows
+
+pub returns-in-Err-clause-grows : goal.returns-in-Err-clause-grows
+returns-in-Err-clause-grows g c = c.in-Err.ensures.fares.went.grows
+
+pub returns-in-Ok-Quiet-clause-grows : goal.returns-in-Ok-Quiet-clause-grows
+returns-in-Ok-Quiet-clause-grows g c = starts_self (seen c.args.pass.now)
+
+pub returns-in-Err-Failed-clause-grows : goal.returns-in-Err-Failed-clause-grows
+returns-in-Err-Failed-clause-grows g c = starts_self (seen c.args.pass.now)
+
+pub returns-in-Err-NoMemory-clause-grows : goal.returns-in-Err-NoMemory-clause-grows
+returns-in-Err-NoMemory-clause-grows g c = starts_self (seen c.args.pass.now)

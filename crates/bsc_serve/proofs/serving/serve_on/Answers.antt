@@ -1,14 +1,17 @@
-use Rattle.std.proofs.Common.{inr, ℕ, true, false, List, Option, Some, ap, refl, subst, sym, ◌∙◌}
+use Rattle.std.proofs.Common.{inr, ℕ, true, false, List, [], Option, None, Some, ap, refl, subst, sym, ◌∙◌}
 use Rattle.std.specs.Prelude.{option_map}
 use Rattle.std.specs.Arc.{arc_value}
 use Rattle.bsc_outside.specs.Faults.{HasRisen}
 use Rattle.bsc_turn.specs.Passes.{own_list, seen}
 use Rattle.bsc_turn.proofs.Beginnings.{starts_self}
 use Rattle.bsc_hub.specs.declared.hub.Hub.{Hub}
+use Rattle.bsc_hub.specs.Passing.{Passed}
+use Rattle.bsc_hub.proofs.Following.{starts_then}
 use Rattle.bsc_edge.specs.Told.{Stays}
 use Rattle.bsc_session.specs.Jobs.{Worked, policy_of}
 use Rattle.bsc_serve.specs.declared.accepted.Accepted.TheVariants.{Halted as HaltedBy}
 use Rattle.bsc_serve.specs.declared.end.ServeEnd.{ServeEnd}
+use Rattle.bsc_serve.specs.declared.tally.Tally.{Tally}
 use Rattle.bsc_serve.specs.Asking.{Asking, EndsAsked, EndsUnasked, Looked, asking_by}
 use Rattle.bsc_serve.specs.Inner.{GoesOn, Stopped, StopsFirst, asked_end, world_of}
 use Rattle.bsc_serve.specs.Serving.{Serving}
@@ -17,6 +20,7 @@ use Rattle.bsc_serve.specs.Waking.{LastIs, stop_place}
 use Rattle.bsc_serve.specs.Worlds.{ServeWorld, Stock, served_world}
 use Rattle.bsc_serve.proofs.Ending.{asked_lost, asked_served, asked_so, halt_failed, halt_lost, halt_unasked, serves_after, serves_asked, serves_halted, serves_whole, whole_lost}
 use Rattle.bsc_serve.proofs.Ending.{whole_served, whole_unasked}
+use Rattle.bsc_serve.proofs.Shown.{goes_seen, shown_later, shown_then}
 use Rattle.bsc_serve.proofs.Waking.{last_told, stands_at}
 use Rattle.bsc_serve.proofs.serving.serve_on.Goals as goal
 
@@ -74,13 +78,17 @@ returns-in-All-clause-serving g c =
       unstarted = P.faults c.accept_all.new.parts.spawner;
     } in
     let first : ServeWorld g.row.L.Denot g.row.C.Denot g.row.N.Denot = world_of before.pass none_out before in
-    let m : ServeWorld g.row.L.Denot g.row.C.Denot g.row.N.Denot = world_of c.take_ended.new.pass all_ended beside in
+    let m : ServeWorld g.row.L.Denot g.row.C.Denot g.row.N.Denot = world_of c.show.new.pass all_ended beside in
     let after : ServeWorld g.row.L.Denot g.row.C.Denot g.row.N.Denot = world_of c.finish-stopped.new.pass all_ended beside in
     let goes : GoesOn W B T h c.accept_all.new.pass all_came c.take_ended.new.pass all_ended =
     subst (λ (y : Hub). GoesOn W B T y c.accept_all.new.pass all_came c.take_ended.new.pass all_ended) c.deref.ensures c.take_ended.ensures.goes_on in
-    let taken = goes terms first beside (record { remaining = Some 0; unstarted = c.in-All.unstarted }) c.in-All.ensures.accepts in
-    let stopped : Stopped h c.take_ended.new.pass c.finish-stopped.new.pass c.finish-stopped.result.answer =
-    subst (λ (y : Hub). Stopped y c.take_ended.new.pass c.finish-stopped.new.pass c.finish-stopped.result.answer) c.deref-in-All.ensures c.finish-stopped.ensures.stopped in
+    let sees : Passed h c.take_ended.new.pass [] None c.show.new.pass =
+    subst (λ (y : Hub). Passed y c.take_ended.new.pass [] None c.show.new.pass) c.deref-in-All.ensures c.show.ensures.passed in
+    let seen_so = goes_seen W B T h c.take_ended.new.pass c.show.new.pass all_ended sees c.show.ensures.loaded in
+    let tally : Tally = record { remaining = Some 0; unstarted = c.in-All.unstarted } in
+    let taken = seen_so terms first (world_of c.take_ended.new.pass all_ended beside) tally (goes terms first beside tally c.in-All.ensures.accepts) in
+    let stopped : Stopped h c.show.new.pass c.finish-stopped.new.pass c.finish-stopped.result.answer =
+    subst (λ (y : Hub). Stopped y c.show.new.pass c.finish-stopped.new.pass c.finish-stopped.result.answer) c.deref-in-All-2.ensures c.finish-stopped.ensures.stopped in
     rw (c.wake_all.ensures.left, c.wake_all.ensures.came, c.wake_all.ensures.waits, c.wake_all.ensures.quiets)
     (subst (λ (e : ServeEnd). Serving W B T terms (served_world h own before) (served_world h own' after) e) (sym c.done.ensures)
     (serves_after W B T h terms before after none_out own own' _ c.await_all.ensures.jobs c.await_all.ensures.gave c.await_all.ensures.later
@@ -223,10 +231,12 @@ returns-in-All-clause-asked g c =
     let A = g.A.Acceptor in
     let Q = g.Q.StopAsker in
     let old : Asking = asking_by Q.looks Q.asked Q.endings c.args.asker.now in
-    let new : Asking = asking_by Q.looks Q.asked Q.endings c.accept_all.new.asker in
+    let new : Asking = asking_by Q.looks Q.asked Q.endings c.show.new.asker in
     record {
       is_asked = false;
-      looked = subst (λ (w : Option (List ℕ)). Looked (own_list c.args.pass.now) (A.waits c.args.parts.now.acceptor) w old new false) (sym c.wake_all.ensures.waits) c.in-All.ensures.looked;
+      looked = subst (λ (w : Option (List ℕ)). Looked (own_list c.args.pass.now) (A.waits c.args.parts.now.acceptor) w old new false) (sym c.wake_all.ensures.waits)
+          (subst (λ (z : Asking). Looked (own_list c.args.pass.now) (A.waits c.args.parts.now.acceptor) (A.waits c.accept_all.new.parts.acceptor) old z false) (sym c.show.ensures.asker)
+          c.in-All.ensures.looked);
       ends = subst (λ (e : ServeEnd). EndsUnasked e) (sym c.done.ensures) (whole_unasked c.in-All.unstarted c.finish-stopped.result.answer c.finish-stopped.result.lost);
     }
 
@@ -302,3 +312,27 @@ returns-in-Asked-clause-bound g c =
 pub returns-in-Halted-clause-bound : goal.returns-in-Halted-clause-bound
 returns-in-Halted-clause-bound g c =
     subst (λ b. Stays (g.A.Acceptor.bound c.args.parts.now.acceptor) b) (sym c.stop_first-told.ensures.bound) c.accept_all.ensures.bound
+
+-- ---- what was shown
+
+pub returns-in-All-clause-shown : goal.returns-in-All-clause-shown
+returns-in-All-clause-shown g c =
+    let Q = g.Q.StopAsker in
+    let begins = starts_then (seen c.accept_all.new.pass) (seen c.take_ended.new.pass) (seen c.show.new.pass) c.take_ended.ensures.takes_in.went.grows c.show.ensures.passed.grows in
+    shown_later (seen c.show.new.pass) (seen c.finish-stopped.new.pass) (Q.statuses c.args.asker.now) (Q.statuses c.show.new.asker) c.finish-stopped.ensures.stopped.passed.grows
+    (shown_then (seen c.accept_all.new.pass) (seen c.show.new.pass) (Q.statuses c.args.asker.now) (Q.statuses c.accept_all.new.asker) (Q.statuses c.show.new.asker) begins
+    c.accept_all.ensures.shown c.show.ensures.shown)
+
+pub returns-in-Asked-clause-shown : goal.returns-in-Asked-clause-shown
+returns-in-Asked-clause-shown g c =
+    let Q = g.Q.StopAsker in
+    let s = c.stop_first-asked.ensures.stops in
+    shown_later (seen c.accept_all.new.pass) (seen c.stop_first-asked.new.pass) (Q.statuses c.args.asker.now) (Q.statuses c.accept_all.new.asker)
+    (starts_then (seen c.accept_all.new.pass) (seen s.at_stop) (seen c.stop_first-asked.new.pass) s.stopped.passed.grows s.ended.went.grows) c.accept_all.ensures.shown
+
+pub returns-in-Halted-clause-shown : goal.returns-in-Halted-clause-shown
+returns-in-Halted-clause-shown g c =
+    let Q = g.Q.StopAsker in
+    let s = c.stop_first-told.ensures.stops in
+    shown_later (seen c.accept_all.new.pass) (seen c.stop_first-told.new.pass) (Q.statuses c.args.asker.now) (Q.statuses c.accept_all.new.asker)
+    (starts_then (seen c.accept_all.new.pass) (seen s.at_stop) (seen c.stop_first-told.new.pass) s.stopped.passed.grows s.ended.went.grows) c.accept_all.ensures.shown
