@@ -1,6 +1,6 @@
 //! An acceptor of one thread whose handshakes wait in one poll.
-ghost use Rattle.std.specs.Prelude.{◌≡◌, ◌≤◌, true, [], ◌∷◌, Some, None, Ok, Err, IsErr, IfOk, IfSome};
-ghost use Rattle.std.specs.List.{list_all};
+ghost use Rattle.std.specs.Prelude.{◌≡◌, ◌≤◌, true, false, is_some, [], ◌∷◌, Some, None, Ok, Err, IsErr, IfOk, IfSome};
+ghost use Rattle.std.specs.List.{list_all, list_any};
 ghost use Rattle.std.proofs.Common.{refl};
 ghost use Rattle.bsc_edge.specs.declared.fault.LinkFault.{LinkFault};
 ghost use Rattle.bsc_edge.specs.Told.{Grows, IsNoLink, Leaves, Stays, ToldIs, arrived_in};
@@ -378,8 +378,23 @@ impl<R: Clock + Net + Wait + RandomSource + Copy + Drop> HandshakeAcceptor<R> {
             self.take_streams(alloc, now);
         }
         self.handshakes.sweep(now);
+        self.handshakes.look();
         self.note(count == BATCH);
         Ok(now)
+    }
+
+    /// Whether it may have something to do: a handshake is at work, a link is done, the listener holds streams, or an event came at
+    /// its watch. Without a watch it may.
+    fn may_be_busy(&self) -> bool
+        ensures { result ≡ false → list_any (λ row. is_some row) self.now.handshakes.rows.items ≡ false }
+    {
+        if self.handshakes.may_be_busy() {
+            return true;
+        }
+        match &self.seat {
+            Some(seat) => seat.is_hot() || self.backlog != Backlog::Empty || !self.done.is_empty(),
+            None => true,
+        }
     }
 
     /// The link that was done first. One of another kind isn't handed out.
@@ -406,6 +421,9 @@ impl<R: Clock + Net + Wait + RandomSource + Copy + Drop> HandshakeAcceptor<R> {
         ensures bound { self.new.bound ≡ self.old.bound }
         ensures kind { self.new.kind ≡ self.old.kind }
     {
+        if wait_ms == 0 && !self.may_be_busy() {
+            return Ok(None);
+        }
         let mut now = Moment::now(&self.rt)?;
         let until = now.after(wait_ms);
         for _ in 0..u64::MAX {

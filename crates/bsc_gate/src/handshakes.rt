@@ -1,5 +1,6 @@
 //! The handshakes that are at work, as rows of one table.
-ghost use Rattle.std.specs.Prelude.{◌≡◌, ◌⊎◌, ◌<◌, [], None, Option, IfSome, slice_get, vec_len};
+ghost use Rattle.std.specs.Prelude.{◌≡◌, ◌⊎◌, ◌<◌, [], None, Option, IfSome, is_some, false, slice_get, vec_len};
+ghost use Rattle.std.specs.List.{list_any};
 ghost use Rattle.bsc_gate.specs.Oldest.{MayTake};
 ghost use Rattle.bsc_gate.specs.Turning.{OnlyLate, turned_by, turned_from, turned_once, turning_by, turning_of};
 ghost use Rattle.bsc_gate.specs.declared.turned.Turning.{Turning as TurningType};
@@ -54,7 +55,24 @@ pub(crate) struct Handshakes {
     rows: Vec<Option<Row>>,
     /// No handshake's time is over before this.
     due: Moment,
+    /// A handshake may be at work.
+    may_be_busy: bool,
     turned: Turned,
+    ghost idle: { may_be_busy ≡ false → list_any (λ row. is_some row) rows.items ≡ false },
+}
+
+/// Whether a handshake stands here.
+fn is_taken(row: &Option<Row>) -> bool
+    ensures { result ≡ is_some row.now }
+{
+    row.is_some()
+}
+
+/// Whether a handshake is at work.
+fn any_taken(rows: &[Option<Row>]) -> bool
+    ensures { result ≡ list_any (λ row. is_some row) rows.now }
+{
+    rows.iter().any(|row| is_taken(row))
 }
 
 impl Handshakes {
@@ -67,8 +85,24 @@ impl Handshakes {
         Ok(Handshakes {
             rows,
             due: Moment { micros: u64::MAX },
+            may_be_busy: true,
             turned: Turned::NONE,
         })
+    }
+
+    /// Looks whether a handshake is at work, and keeps that until one begins or goes on.
+    pub(crate) fn look(&mut self)
+        ensures rows { self.new.rows ≡ self.old.rows }
+        ensures turned { self.new.turned ≡ self.old.turned }
+    {
+        self.may_be_busy = any_taken(self.rows.as_slice());
+    }
+
+    /// Whether a handshake may be at work.
+    pub(crate) fn may_be_busy(&self) -> bool
+        ensures { result ≡ false → list_any (λ row. is_some row) self.now.rows.items ≡ false }
+    {
+        self.may_be_busy
     }
 
     /// A stream that has no handshake here is turned away.
@@ -117,6 +151,7 @@ impl Handshakes {
         ensures rows { vec_len self.new.rows ≡ vec_len self.old.rows }
         ensures turned { self.new.turned ≡ turned_from (slice_get self.old.rows.items place) self.old.turned }
     {
+        self.may_be_busy = true;
         let begun = Row {
             handshake: begin(alloc, socket, kind),
             until,
@@ -139,6 +174,7 @@ impl Handshakes {
         ensures rows { vec_len self.new.rows ≡ vec_len self.old.rows }
         ensures turned { (self.new.turned ≡ self.old.turned) ⊎ (self.new.turned ≡ turned_once cause.Failed self.old.turned) }
     {
+        self.may_be_busy = true;
         let Some(there) = self.rows.get_mut(place) else {
             return;
         };
@@ -166,6 +202,7 @@ impl Handshakes {
         // At most one stream is turned away, and none where it is done.
         ensures turned { (why : Option TurningType) × (self.new.turned ≡ turned_by why self.old.turned) × IfSome result (λ _. why ≡ None) }
     {
+        self.may_be_busy = true;
         let row = self.rows.get_mut(place)?;
         let Row {
             handshake,
@@ -205,6 +242,7 @@ impl Handshakes {
         ensures rows { vec_len self.new.rows ≡ vec_len self.old.rows }
         ensures turned { self.new.turned ≡ self.old.turned }
     {
+        self.may_be_busy = true;
         let mut late = 0u64;
         let mut due = Moment { micros: u64::MAX };
         for place in 0..self.rows.len() {

@@ -2,7 +2,7 @@
 ghost use Rattle.std.specs.Prelude.{◌≡◌, IfErr, IfOk};
 ghost use Rattle.bsc_edge.specs.declared.fault.LinkFault.{LinkFault};
 
-use bsc_edge::{Incoming, Link, LinkFault};
+use bsc_edge::{Incoming, Link, LinkFault, Settled};
 use std::alloc::Global;
 
 /// A link in memory of its own, so that who hands it on moves its place alone: on its way from the door to its session's thread a
@@ -40,6 +40,10 @@ impl<L: Link> Link for BoxedLink<L> {
 
     fn is_idle(&self) -> bool {
         self.link.is_idle()
+    }
+
+    fn settle(&mut self, alloc: Global) -> Settled {
+        self.link.as_mut().settle(alloc)
     }
 
     fn put(&mut self, alloc: Global, m: &[u8]) -> Result<(), LinkFault> {

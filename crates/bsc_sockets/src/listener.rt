@@ -6,6 +6,7 @@ ghost use Rattle.bsc_sockets.specs.Telling.{TellsRise, risen};
 
 use crate::boxed_link::BoxedLink;
 use crate::links::RealLink;
+use crate::numbers::Numbers;
 use crate::waiting::Shared;
 use bsc_edge::{Acceptor, Arrived, Failed, Kind, Link, LinkFault, ToldLink};
 use bsc_gate::{HandshakeAcceptor, Turned};
@@ -36,6 +37,9 @@ pub struct Listener<R: Clock + Net + Wait + Eprint + Copy + Drop> {
     /// Where a log is written, if anywhere.
     stderr: Option<Stderr>,
     gate: Option<LoggedAcceptor<HandshakeAcceptor<R>, R>>,
+    /// Where it keeps what it counts for others to see, if anywhere.
+    numbers: Option<Arc<Numbers>>,
+    links: u64,
     faults: u64,
     quiets: u64,
     bound: Option<u16>,
@@ -60,6 +64,8 @@ impl<R: Clock + Net + Wait + Eprint + Copy + Drop> Listener<R> {
             shared,
             stderr: None,
             gate: None,
+            numbers: None,
+            links: 0,
             faults: 0,
             quiets: 0,
             bound: None,
@@ -86,6 +92,18 @@ impl<R: Clock + Net + Wait + Eprint + Copy + Drop> Listener<R> {
     {
         let mut door = self;
         door.stderr = Some(stderr);
+        door
+    }
+
+    /// The same door, which keeps there how many links have come, and how many streams it turned away.
+    pub fn counted_at(self, numbers: Arc<Numbers>) -> Listener<R>
+        ensures bound { result.bound ≡ self.bound }
+        ensures waits { result.waits ≡ self.waits }
+        ensures came { result.came ≡ self.came }
+        ensures stops { result.stops ≡ self.stops }
+    {
+        let mut door = self;
+        door.numbers = Some(numbers);
         door
     }
 }
@@ -190,6 +208,26 @@ fn risen(before: Turned, after: Turned) -> [(Turning, u64); 7]
     ]
 }
 
+/// Keeps there, if anywhere, how many links have come, and how many streams the gate turned away.
+fn keep_numbers<R: Clock + Net + Wait + RandomSource + Copy + Drop>(
+    numbers: &Option<Arc<Numbers>>,
+    gate: &Option<LoggedAcceptor<HandshakeAcceptor<R>, R>>,
+    links: u64,
+) {
+    if let (Some(numbers), Some(gate)) = (numbers, gate) {
+        numbers.store_links(links);
+        numbers.store_turned(gate.acceptor().turned());
+    }
+}
+
+/// How many links have come, with what was answered now.
+fn links_after<L>(links: u64, answer: &Result<Arrived<L>, LinkFault>) -> u64 {
+    match answer {
+        Ok(Arrived::Link(_)) => links.saturating_add(1),
+        Ok(Arrived::Quiet) | Err(_) => links,
+    }
+}
+
 /// What a gate answers next, in memory of its own. Its log tells which streams it turned away meanwhile.
 fn next_of<R: Clock + Net + Wait + RandomSource + Copy + Drop>(
     gate: &mut LoggedAcceptor<HandshakeAcceptor<R>, R>,
@@ -268,6 +306,8 @@ impl<R: Clock + Net + Wait + Eprint + Env + RandomSource + Copy + Drop> Acceptor
             Some(gate) => next_of(gate, alloc, wait_ms),
             None => Err(LinkFault::Failed),
         };
+        self.links = links_after(self.links, &answer);
+        keep_numbers(&self.numbers, &self.gate, self.links);
         self.waits.add(&wait_ms);
         match &answer {
             Ok(Arrived::Link(link)) => self.came.add(link),
