@@ -3,6 +3,7 @@ use Rattle.std.specs.Prelude.{◌≡◌, ℕ, nat_le, Bool, not, ◌&&◌, ◌||
 use Rattle.bsc_octets.specs.declared.vmac.Vmac.{Vmac}
 use Rattle.bsc_octets.specs.Addresses.{same_vmac, zero_vmac, broadcast}
 use Rattle.bsc_text.specs.Grammar.{device_of_word, is_name, maximum_of_word, number_of, vmac_of_word}
+use Rattle.bsc_text.specs.declared.bounds.TheConstants.{LATEST}
 use Rattle.bsc_diagnostics.specs.declared.diagnostic.Diagnostic.{Diagnostic}
 use Rattle.bsc_diagnostics.specs.declared.diagnostic.Diagnostic.TheVariants as diagnostic
 
@@ -44,8 +45,11 @@ vmac_rule word = unless (is_some (vmac_of_word word)) no_vmac
 abbrev pub device_rule : List ℕ → Option (List ℕ)
 device_rule word = unless (is_some (device_of_word word)) (codes "is no UUID")
 
+abbrev pub no_maximum : List ℕ
+no_maximum = codes "is no maximum length of 4 hexadecimal digits"
+
 abbrev pub maximum_rule : List ℕ → Option (List ℕ)
-maximum_rule word = unless (is_some (maximum_of_word word)) (codes "is no maximum length of 4 hexadecimal digits")
+maximum_rule word = unless (is_some (maximum_of_word word)) no_maximum
 
 abbrev pub number_rule : List ℕ → Option (List ℕ)
 number_rule word = unless (is_some (number_of word)) (codes "is no number of 1 to 19 digits without a sign or a leading zero")
@@ -68,3 +72,16 @@ one_node_rule (Some v) =
 abbrev pub within_rule : ℕ → ℕ → List ℕ → Option ℕ → Option (List ℕ)
 within_rule least greatest rule None = Some rule
 within_rule least greatest rule (Some n) = unless (nat_le least n && nat_le n greatest) rule
+
+-- a maximum length of at least so many octets
+abbrev pub maximum_within : ℕ → List ℕ → Option ℕ → Option (List ℕ)
+maximum_within least rule None = Some no_maximum
+maximum_within least rule (Some n) = unless (nat_le least n) rule
+
+abbrev pub maximum_from : ℕ → List ℕ → List ℕ → Option (List ℕ)
+maximum_from least rule word = maximum_within least rule (maximum_of_word word)
+
+-- What is wrong with a time to which the clock of a script can't be set, by the number that a word is, where it is one.
+abbrev pub time_rule : Option ℕ → List ℕ
+time_rule None = codes "is less than the time that the clock is set to"
+time_rule (Some ms) = if nat_le ms LATEST then codes "is less than the time that the clock is set to" else codes "is above 10^15 milliseconds"

@@ -13,8 +13,8 @@ mod shown;
 pub use cutting::next_line;
 pub use diagnostic::Diagnostic;
 pub use rules::{
-    hold, hold_any_maximum, hold_destination, hold_device, hold_digits, hold_hub_identity,
-    hold_identity, hold_name, hold_number, hold_octets, hold_one_node, hold_time, hold_vmac,
-    hold_within, no_more, only_word, why_time, word_of,
+    first_of, hold, hold_any_maximum, hold_destination, hold_device, hold_digits,
+    hold_hub_identity, hold_identity, hold_name, hold_number, hold_octets, hold_one_node,
+    hold_time, hold_vmac, hold_within, no_more, only_word, told_or, why_time, word_of,
 };
 pub use shown::Shown;

@@ -1,9 +1,11 @@
 //! Rules of words, which several languages share. Each is kept by exactly the words that the reader of such a word takes.
-ghost use Rattle.std.specs.Prelude.{◌≡◌, ◌<◌, ◌↔◌, true, [], ◌∷◌, length, is_some, IsOk, IsErr, IfOk, IfErr};
+ghost use Rattle.std.specs.Prelude.{◌≡◌, ◌<◌, ◌↔◌, true, [], ◌∷◌, codes, length, is_some, Option, IsOk, IsErr, IfOk, IfErr};
+ghost use Rattle.std.specs.List.{list_all};
 ghost use Rattle.bsc_text.specs.Words.{words_of};
 ghost use Rattle.bsc_text.specs.Grammar.{device_of_word, is_name, maximum_of_word, number_of, vmac_of_word};
-ghost use Rattle.bsc_diagnostics.specs.Broken.{IsMissing, IsMore, Tells, destination_rule, device_rule, maximum_rule, name_rule, number_rule};
-ghost use Rattle.bsc_diagnostics.specs.Broken.{one_node_rule, unless, vmac_rule, within_rule};
+ghost use Rattle.bsc_diagnostics.specs.Broken.{IsMissing, IsMore, IsOfWord, Tells, destination_rule, device_rule, maximum_rule, name_rule, number_rule};
+ghost use Rattle.bsc_diagnostics.specs.Broken.{maximum_from, one_node_rule, time_rule, unless, vmac_rule, within_rule};
+ghost use Rattle.bsc_diagnostics.specs.Forms.{Broken, Says, TellsFirst, any, by_form, differ, digits_rule, first, hub_rules, identity_rules, is_digit, octets_broken, or_no_line, wrong};
 
 use crate::diagnostic::Diagnostic;
 use bsc_octets::{LEAST_BVLC, Vmac};
@@ -24,6 +26,29 @@ pub fn hold<'a>(is_so: bool, word: &'a [u8], rule: &'static str) -> Result<(), D
         Ok(())
     } else {
         Err(Diagnostic::Word { word, rule })
+    }
+}
+
+/// The first of two checks that is broken.
+pub fn first_of<'a>(
+    one: Result<(), Diagnostic<'a>>,
+    other: Result<(), Diagnostic<'a>>,
+) -> Result<(), Diagnostic<'a>>
+    ensures { (a b : Option Broken) → TellsFirst one.entry a → TellsFirst other.entry b → TellsFirst result (first a b) }
+{
+    match one {
+        Ok(()) => other,
+        Err(told) => Err(told),
+    }
+}
+
+/// What is told of a line that is refused: what is broken, or this rule, where nothing of it is.
+pub fn told_or<'a>(answer: Result<(), Diagnostic<'a>>, rule: &'static str) -> Diagnostic<'a>
+    ensures { (broken : Option Broken) → TellsFirst answer.entry broken → Says result (or_no_line rule.now broken) }
+{
+    match answer {
+        Err(told) => told,
+        Ok(()) => Diagnostic::Line { rule },
     }
 }
 
@@ -56,7 +81,8 @@ pub fn no_more<'a>(words: &'a [u8], form: &'static str) -> Result<(), Diagnostic
 
 /// The only word of a line of this form, behind its first.
 pub fn only_word<'a>(words: &'a [u8], form: &'static str) -> Result<&'a [u8], Diagnostic<'a>>
-    ensures { IfOk result (λ word. words_of words.now ≡ word.now ∷ []) }
+    ensures word { IfOk result (λ word. words_of words.now ≡ word.now ∷ []) }
+    ensures told { TellsFirst result (by_form form.now (any ∷ []) (words_of words.now)) }
 {
     let (word, rest) = word_of(words, form)?;
     no_more(rest, form)?;
@@ -130,7 +156,9 @@ pub fn hold_any_maximum<'a>(word: &'a [u8]) -> Result<(), Diagnostic<'a>>
 }
 
 /// A maximum length of at least so many octets.
-fn hold_maximum<'a>(word: &'a [u8], least: u16, rule: &'static str) -> Result<(), Diagnostic<'a>> {
+fn hold_maximum<'a>(word: &'a [u8], least: u16, rule: &'static str) -> Result<(), Diagnostic<'a>>
+    ensures { Tells result word.now (maximum_from least rule.now word.now) }
+{
     match read_maximum(word) {
         Some(n) => hold(least <= n, word, rule),
         None => hold_any_maximum(word),
@@ -143,7 +171,9 @@ pub fn hold_identity<'a>(
     device: &'a [u8],
     bvlc: &'a [u8],
     npdu: &'a [u8],
-) -> Result<(), Diagnostic<'a>> {
+) -> Result<(), Diagnostic<'a>>
+    ensures { TellsFirst result (wrong identity_rules (vmac.now ∷ device.now ∷ bvlc.now ∷ npdu.now ∷ [])) }
+{
     hold_vmac(vmac)?;
     hold_device(device)?;
     hold_any_maximum(bvlc)?;
@@ -155,7 +185,9 @@ pub fn hold_hub_identity<'a>(
     vmac: &'a [u8],
     bvlc: &'a [u8],
     npdu: &'a [u8],
-) -> Result<(), Diagnostic<'a>> {
+) -> Result<(), Diagnostic<'a>>
+    ensures { TellsFirst result (wrong hub_rules (vmac.now ∷ bvlc.now ∷ npdu.now ∷ [])) }
+{
     hold_one_node(vmac)?;
     hold_maximum(bvlc, LEAST_BVLC, "is a longest message below 0040")?;
     hold_maximum(npdu, 1, "is a longest NPDU below 0001")
@@ -170,7 +202,9 @@ pub fn hold_number<'a>(word: &'a [u8]) -> Result<(), Diagnostic<'a>>
 }
 
 /// The time of a line `at`, by the words after its first.
-pub fn hold_time<'a>(words: &'a [u8]) -> Result<(), Diagnostic<'a>> {
+pub fn hold_time<'a>(words: &'a [u8]) -> Result<(), Diagnostic<'a>>
+    ensures { TellsFirst result (by_form (codes "at MS") (number_rule ∷ []) (words_of words.now)) }
+{
     hold_number(only_word(words, "at MS")?)
 }
 
@@ -190,26 +224,46 @@ pub fn hold_within<'a>(
 }
 
 /// Whether an octet is a hexadecimal digit, in either case.
-fn is_digit(octet: u8) -> bool {
+fn is_digit(octet: u8) -> bool
+    ensures { result ≡ is_digit octet }
+{
     matches!(octet, b'0'..=b'9' | b'A'..=b'F' | b'a'..=b'f')
 }
 
+/// Whether all octets are.
+fn are_digits(word: &[u8]) -> bool
+    ensures { result ≡ list_all is_digit word.now }
+{
+    word.iter().all(|octet| is_digit(*octet))
+}
+
 /// Hexadecimal digits.
-pub fn hold_digits<'a>(word: &'a [u8]) -> Result<(), Diagnostic<'a>> {
+pub fn hold_digits<'a>(word: &'a [u8]) -> Result<(), Diagnostic<'a>>
+    ensures { Tells result word.now (digits_rule word.now) }
+{
     hold(
-        word.iter().all(|octet| is_digit(*octet)),
+        are_digits(word),
         word,
         "has octets that are no hexadecimal digits",
     )
 }
 
+/// Whether one of two is so, and not both.
+fn differ(one: bool, other: bool) -> bool
+    ensures { result ≡ differ one other }
+{
+    one != other
+}
+
 /// Octets, over any number of words.
-pub fn hold_octets<'a>(words: &'a [u8]) -> Result<(), Diagnostic<'a>> {
+pub fn hold_octets<'a>(words: &'a [u8]) -> Result<(), Diagnostic<'a>>
+    ensures { TellsFirst result (octets_broken (words_of words.now)) }
+{
     let mut rest = words;
     let mut is_odd = false;
     while let Some((word, after)) = next_word(rest) {
         hold_digits(word)?;
-        is_odd = is_odd != (word.len() % 2 == 1);
+        is_odd = differ(is_odd, word.len() % 2 == 1);
         rest = after;
     }
     if is_odd {
@@ -221,7 +275,9 @@ pub fn hold_octets<'a>(words: &'a [u8]) -> Result<(), Diagnostic<'a>> {
 }
 
 /// The rule that a time breaks, to which the clock of a script can't be set.
-pub fn why_time<'a>(word: &'a [u8]) -> Diagnostic<'a> {
+pub fn why_time<'a>(word: &'a [u8]) -> Diagnostic<'a>
+    ensures { IsOfWord result word.now (time_rule (number_of word.now)) }
+{
     match read_number(word) {
         Some(ms) if ms > LATEST => Diagnostic::Word {
             word,

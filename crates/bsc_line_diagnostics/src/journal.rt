@@ -1,10 +1,15 @@
 //! Lines of a journal (docs/AUDIT.md, "What a journal is").
-ghost use Rattle.std.specs.Prelude.{◌≡◌, IfSome};
+ghost use Rattle.std.specs.Prelude.{◌≡◌, codes, drop, IfSome};
+ghost use Rattle.bsc_text.specs.Words.{words_of};
+ghost use Rattle.bsc_diagnostics.specs.Forms.{Says as SaysBroken, TellsFirst, or_no_line};
+ghost use Rattle.bsc_line_diagnostics.specs.Journals.{TellsOrLeaves, behind_call, call_own, connect_own, entry_broken, forward_own, is_answer, is_reply, is_sending, journal_broken, leave_own};
 ghost use Rattle.bsc_journal.specs.declared.journal_record.JournalRecord.{JournalRecord as SaidOf};
 ghost use Rattle.bsc_journal.specs.Saying.{Says};
 
 use crate::script::hold_hub;
-use bsc_diagnostics::{Diagnostic, hold, hold_digits, hold_number, hold_octets, word_of};
+use bsc_diagnostics::{
+    Diagnostic, first_of, hold, hold_digits, hold_number, hold_octets, told_or, word_of,
+};
 use bsc_journal::read_said;
 use bsc_text::{begins_comment, next_word};
 use std::alloc::Global;
@@ -17,32 +22,17 @@ const FORWARD: &str = "PLACE CALLER forward C OCTETS looks L REPLY";
 
 const LEAVE: &str = "PLACE CALLER leave C TAKEN EMPTIES REPLY";
 
-/// The words with which a reply may begin.
-const REPLIES: [&str; 12] = [
-    "joined",
-    "duplicate",
-    "tablefull",
-    "stopped",
-    "sent",
-    "full",
-    "long",
-    "noholder",
-    "sentall",
-    "notcurrent",
-    "gone",
-    "counts",
-];
-
 /// How many digits the identity of a connect has.
 const IDENTITY_DIGITS: usize = 52;
 
 /// What is read word by word, and isn't written as it has to be.
-const NOT_EXACT: Diagnostic<'static> = Diagnostic::Line {
-    rule: "it isn't exact: one space between words, capitals in hexadecimal digits, and all words of its reply",
-};
+const NOT_EXACT: &str =
+    "it isn't exact: one space between words, capitals in hexadecimal digits, and all words of its reply";
 
 /// A connect, by the words after its name: the words after it.
-fn hold_connect<'a>(words: &'a [u8]) -> Result<&'a [u8], Diagnostic<'a>> {
+fn hold_connect<'a>(words: &'a [u8]) -> Result<&'a [u8], Diagnostic<'a>>
+    ensures { TellsOrLeaves (λ rest. words_of rest.now) result (connect_own (words_of words.now)) (drop 1 (words_of words.now)) }
+{
     let (word, rest) = word_of(words, CONNECT)?;
     hold_digits(word)?;
     hold(
@@ -54,7 +44,9 @@ fn hold_connect<'a>(words: &'a [u8]) -> Result<&'a [u8], Diagnostic<'a>> {
 }
 
 /// A forward, likewise.
-fn hold_forward<'a>(words: &'a [u8]) -> Result<&'a [u8], Diagnostic<'a>> {
+fn hold_forward<'a>(words: &'a [u8]) -> Result<&'a [u8], Diagnostic<'a>>
+    ensures { TellsOrLeaves (λ rest. words_of rest.now) result (forward_own (words_of words.now)) (drop 4 (words_of words.now)) }
+{
     let (conn, words) = word_of(words, FORWARD)?;
     let (frame, words) = word_of(words, FORWARD)?;
     let (looks, words) = word_of(words, FORWARD)?;
@@ -66,7 +58,9 @@ fn hold_forward<'a>(words: &'a [u8]) -> Result<&'a [u8], Diagnostic<'a>> {
 }
 
 /// A leave, likewise.
-fn hold_leave<'a>(words: &'a [u8]) -> Result<&'a [u8], Diagnostic<'a>> {
+fn hold_leave<'a>(words: &'a [u8]) -> Result<&'a [u8], Diagnostic<'a>>
+    ensures { TellsOrLeaves (λ rest. words_of rest.now) result (leave_own (words_of words.now)) (drop 3 (words_of words.now)) }
+{
     let (conn, words) = word_of(words, LEAVE)?;
     let (taken, words) = word_of(words, LEAVE)?;
     let (empties, rest) = word_of(words, LEAVE)?;
@@ -77,7 +71,9 @@ fn hold_leave<'a>(words: &'a [u8]) -> Result<&'a [u8], Diagnostic<'a>> {
 }
 
 /// A call, by its name and the words after it: the words after it.
-fn hold_call<'a>(call: &'a [u8], words: &'a [u8]) -> Result<&'a [u8], Diagnostic<'a>> {
+fn hold_call<'a>(call: &'a [u8], words: &'a [u8]) -> Result<&'a [u8], Diagnostic<'a>>
+    ensures { TellsOrLeaves (λ rest. words_of rest.now) result (call_own call.now (words_of words.now)) (behind_call call.now (words_of words.now)) }
+{
     if call == b"connect".as_slice() {
         return hold_connect(words);
     }
@@ -95,18 +91,42 @@ fn hold_call<'a>(call: &'a [u8], words: &'a [u8]) -> Result<&'a [u8], Diagnostic
     Ok(words)
 }
 
+/// Whether a reply of a connect may begin with a word, or that of a call of a hub that is stopped.
+fn begins_answer(word: &[u8]) -> bool
+    ensures { result ≡ is_answer word.now }
+{
+    word == b"joined".as_slice()
+        || word == b"duplicate".as_slice()
+        || word == b"tablefull".as_slice()
+        || word == b"stopped".as_slice()
+}
+
+/// Whether one of a forward may.
+fn begins_sending(word: &[u8]) -> bool
+    ensures { result ≡ is_sending word.now }
+{
+    word == b"sent".as_slice()
+        || word == b"full".as_slice()
+        || word == b"long".as_slice()
+        || word == b"noholder".as_slice()
+        || word == b"sentall".as_slice()
+        || word == b"notcurrent".as_slice()
+}
+
 /// Whether a reply may begin with a word.
-fn begins_reply(word: &[u8]) -> bool {
-    for reply in &REPLIES {
-        if word == reply.as_bytes() {
-            return true;
-        }
-    }
-    false
+fn begins_reply(word: &[u8]) -> bool
+    ensures { result ≡ is_reply word.now }
+{
+    begins_answer(word)
+        || begins_sending(word)
+        || word == b"gone".as_slice()
+        || word == b"counts".as_slice()
 }
 
 /// The line of an entry.
-fn hold_entry<'a>(line: &'a [u8]) -> Result<(), Diagnostic<'a>> {
+fn hold_entry<'a>(line: &'a [u8]) -> Result<(), Diagnostic<'a>>
+    ensures { TellsFirst result (entry_broken (words_of line.now)) }
+{
     let (place, words) = word_of(line, ENTRY)?;
     let (caller, words) = word_of(words, ENTRY)?;
     let (call, words) = word_of(words, ENTRY)?;
@@ -122,7 +142,9 @@ fn hold_entry<'a>(line: &'a [u8]) -> Result<(), Diagnostic<'a>> {
 }
 
 /// A line of a journal.
-fn hold_line<'a>(line: &'a [u8]) -> Result<(), Diagnostic<'a>> {
+fn hold_line<'a>(line: &'a [u8]) -> Result<(), Diagnostic<'a>>
+    ensures { TellsFirst result (journal_broken (words_of line.now)) }
+{
     let Some((first, words)) = next_word(line) else {
         return Err(Diagnostic::Line {
             rule: "a journal has no empty lines",
@@ -134,23 +156,25 @@ fn hold_line<'a>(line: &'a [u8]) -> Result<(), Diagnostic<'a>> {
         });
     }
     if first == b"hub".as_slice() {
-        hold_hub(words)?;
-        return Err(Diagnostic::Line {
-            rule: "the hub line of a journal says CALLS too",
-        });
+        return first_of(
+            hold_hub(words),
+            Err(Diagnostic::Line {
+                rule: "the hub line of a journal says CALLS too",
+            }),
+        );
     }
     hold_entry(line)
 }
 
 /// The rule that a line breaks which says nothing in a journal; None of one that says something.
 pub fn why_journal_line<'a>(alloc: Global, line: &'a [u8]) -> Option<Diagnostic<'a>>
-    ensures { IfSome result (λ reason. (s : SaidOf) → Says line.now s → ⊥) }
+    ensures refused { IfSome result (λ reason. (s : SaidOf) → Says line.now s → ⊥) }
+    ensures told { IfSome result (λ reason. SaysBroken reason (or_no_line
+        (codes "it isn't exact: one space between words, capitals in hexadecimal digits, and all words of its reply")
+        (journal_broken (words_of line.now)))) }
 {
     match read_said(alloc, line) {
         Ok(Some(_)) | Err(_) => None,
-        Ok(None) => match hold_line(line) {
-            Err(reason) => Some(reason),
-            Ok(()) => Some(NOT_EXACT),
-        },
+        Ok(None) => Some(told_or(hold_line(line), NOT_EXACT)),
     }
 }

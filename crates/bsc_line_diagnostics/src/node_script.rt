@@ -1,4 +1,9 @@
 //! Lines of the script of a node (docs/OPERATING.md, "The script of a node").
+ghost use Rattle.std.specs.Prelude.{◌≡◌};
+ghost use Rattle.bsc_text.specs.Words.{words_of};
+ghost use Rattle.bsc_diagnostics.specs.Forms.{TellsFirst};
+ghost use Rattle.bsc_line_diagnostics.specs.NodeScripts.{TellsBroken, node_script_broken, request_broken, send_broken};
+
 use bsc_diagnostics::{
     Diagnostic, hold_destination, hold_octets, hold_one_node, hold_time, next_line, no_more,
     only_word, word_of,
@@ -13,7 +18,9 @@ const NO_LINE: Diagnostic<'static> = Diagnostic::Line {
 };
 
 /// What is sent: a VMAC that isn't zero, and at least one octet.
-fn hold_send<'a>(words: &'a [u8]) -> Result<(), Diagnostic<'a>> {
+fn hold_send<'a>(words: &'a [u8]) -> Result<(), Diagnostic<'a>>
+    ensures { TellsFirst result (send_broken (words_of words.now)) }
+{
     let (dest, words) = word_of(words, SEND)?;
     hold_destination(dest)?;
     let _ = word_of(words, SEND)?;
@@ -21,7 +28,9 @@ fn hold_send<'a>(words: &'a [u8]) -> Result<(), Diagnostic<'a>> {
 }
 
 /// A line that does something, by its first word and those after it.
-fn hold_words<'a>(first: &'a [u8], words: &'a [u8]) -> Result<(), Diagnostic<'a>> {
+fn hold_words<'a>(first: &'a [u8], words: &'a [u8]) -> Result<(), Diagnostic<'a>>
+    ensures { TellsFirst result (request_broken first.now (words_of words.now)) }
+{
     if first == b"at".as_slice() {
         return hold_time(words);
     }
@@ -47,7 +56,9 @@ fn hold_words<'a>(first: &'a [u8], words: &'a [u8]) -> Result<(), Diagnostic<'a>
 }
 
 /// The rule that a line breaks which has no form of a line of a node's script; None of one that has.
-pub fn why_node_line<'a>(line: &'a [u8]) -> Option<Diagnostic<'a>> {
+pub fn why_node_line<'a>(line: &'a [u8]) -> Option<Diagnostic<'a>>
+    ensures { TellsBroken result (node_script_broken (words_of line.now)) }
+{
     let (first, words) = next_word(line)?;
     if begins_comment(first) {
         return None;

@@ -1,11 +1,15 @@
 //! Which rule a line breaks that has no form of a line of a network's script (docs/NETWORK.md, "The lines of a script" and
 //! "Steps").
-ghost use Rattle.std.specs.Prelude.{◌≡◌, None, IfSome};
+ghost use Rattle.std.specs.Prelude.{◌≡◌, [], codes, None, IfSome};
+ghost use Rattle.bsc_text.specs.Words.{words_of};
+ghost use Rattle.bsc_diagnostics.specs.Broken.{Tells};
+ghost use Rattle.bsc_diagnostics.specs.Forms.{Says, TellsFirst, by_form, of_word, or_no_line};
+ghost use Rattle.bsc_network_diagnostics.specs.Lines.{asking_broken, direct_broken, direct_rule, event_broken, hub_broken, index_rule, network_broken, node_broken, of_index, send_broken, step_broken};
 ghost use Rattle.bsc_network_script.specs.Lines.{line_of};
 
 use bsc_diagnostics::{
-    Diagnostic, hold_device, hold_identity, hold_octets, hold_time, hold_vmac, hold_within,
-    no_more, only_word, word_of,
+    Diagnostic, first_of, hold, hold_device, hold_identity, hold_octets, hold_time, hold_vmac,
+    hold_within, no_more, only_word, told_or, word_of,
 };
 use bsc_network_script::read_line;
 use bsc_player::LineFault;
@@ -27,52 +31,85 @@ pub(crate) const NO_LINE: Diagnostic<'static> = Diagnostic::Line {
 };
 
 /// The number of a hub, a node or a link.
-fn index<'a>(word: &'a [u8]) -> Result<(), Diagnostic<'a>> {
+fn index<'a>(word: &'a [u8]) -> Result<(), Diagnostic<'a>>
+    ensures { Tells result word.now (index_rule word.now) }
+{
     hold_within(word, 0, MOST, "is no number from 0 to 4294967295")
 }
 
+/// The end of a line of this form.
+fn hold_end<'a>(words: &'a [u8], form: &'static str) -> Result<(), Diagnostic<'a>>
+    ensures { TellsFirst result (by_form form.now [] (words_of words.now)) }
+{
+    no_more(words, form)
+}
+
 /// A hub line, by the words after `hub`.
-fn hold_hub<'a>(words: &'a [u8]) -> Result<(), Diagnostic<'a>> {
+fn hold_hub<'a>(words: &'a [u8]) -> Result<(), Diagnostic<'a>>
+    ensures { TellsFirst result (hub_broken (words_of words.now)) }
+{
     let (address, words) = word_of(words, HUB)?;
     let (uuid, words) = word_of(words, HUB)?;
     let (bvlc, words) = word_of(words, HUB)?;
     let (npdu, words) = word_of(words, HUB)?;
-    no_more(words, HUB)?;
-    hold_identity(address, uuid, bvlc, npdu)
+    first_of(
+        hold_end(words, HUB),
+        hold_identity(address, uuid, bvlc, npdu),
+    )
 }
 
 /// A node line, by the words after `node`.
-fn hold_node<'a>(words: &'a [u8]) -> Result<(), Diagnostic<'a>> {
+fn hold_node<'a>(words: &'a [u8]) -> Result<(), Diagnostic<'a>>
+    ensures { TellsFirst result (node_broken (words_of words.now)) }
+{
     let (address, words) = word_of(words, NODE)?;
     let (uuid, words) = word_of(words, NODE)?;
     hold_vmac(address)?;
     hold_device(uuid)?;
+    hold_direct(words)
+}
+
+/// The word behind a node's device.
+fn hold_behind<'a>(word: &'a [u8]) -> Result<(), Diagnostic<'a>>
+    ensures { TellsFirst result (of_word word.now (direct_rule word.now)) }
+{
+    hold(
+        word == b"direct".as_slice(),
+        word,
+        "isn't `direct`, which alone may stand behind the device",
+    )
+}
+
+/// What may stand behind a node's device: `direct`, and nothing behind it.
+fn hold_direct<'a>(words: &'a [u8]) -> Result<(), Diagnostic<'a>>
+    ensures { TellsFirst result (direct_broken (words_of words.now)) }
+{
     let Some((word, words)) = next_word(words) else {
         return Ok(());
     };
-    if word != b"direct".as_slice() {
-        return Err(Diagnostic::Word {
-            word,
-            rule: "isn't `direct`, which alone may stand behind the device",
-        });
-    }
-    no_more(words, NODE)
+    first_of(hold_behind(word), hold_end(words, NODE))
 }
 
 /// A line that says what the user of a node wants of a VMAC, by the words after its first.
-fn hold_asking<'a>(words: &'a [u8], form: &'static str) -> Result<(), Diagnostic<'a>> {
+fn hold_asking<'a>(words: &'a [u8], form: &'static str) -> Result<(), Diagnostic<'a>>
+    ensures { TellsFirst result (asking_broken form.now (words_of words.now)) }
+{
     let (node, words) = word_of(words, form)?;
     index(node)?;
     hold_vmac(only_word(words, form)?)
 }
 
 /// A line that says one number, by the words after its first.
-fn hold_index<'a>(words: &'a [u8], form: &'static str) -> Result<(), Diagnostic<'a>> {
+fn hold_index<'a>(words: &'a [u8], form: &'static str) -> Result<(), Diagnostic<'a>>
+    ensures { TellsFirst result (of_index form.now (words_of words.now)) }
+{
     index(only_word(words, form)?)
 }
 
 /// A step of a link or of a hub, by its first word and those after it.
-fn hold_step<'a>(first: &'a [u8], words: &'a [u8]) -> Result<(), Diagnostic<'a>> {
+fn hold_step<'a>(first: &'a [u8], words: &'a [u8]) -> Result<(), Diagnostic<'a>>
+    ensures { TellsFirst result (step_broken first.now (words_of words.now)) }
+{
     if first == b"up".as_slice() {
         return hold_index(words, "up L");
     }
@@ -94,8 +131,21 @@ fn hold_step<'a>(first: &'a [u8], words: &'a [u8]) -> Result<(), Diagnostic<'a>>
     })
 }
 
+/// What is sent: a node, a VMAC, and octets, by the words after `send`.
+fn hold_send<'a>(words: &'a [u8]) -> Result<(), Diagnostic<'a>>
+    ensures { TellsFirst result (send_broken (words_of words.now)) }
+{
+    let (node, words) = word_of(words, SEND)?;
+    let (dest, words) = word_of(words, SEND)?;
+    index(node)?;
+    hold_vmac(dest)?;
+    hold_octets(words)
+}
+
 /// A step of a node, or another, by its first word and those after it.
-fn hold_event<'a>(first: &'a [u8], words: &'a [u8]) -> Result<(), Diagnostic<'a>> {
+fn hold_event<'a>(first: &'a [u8], words: &'a [u8]) -> Result<(), Diagnostic<'a>>
+    ensures { TellsFirst result (event_broken first.now (words_of words.now)) }
+{
     if first == b"start".as_slice() {
         return hold_index(words, "start K");
     }
@@ -115,17 +165,15 @@ fn hold_event<'a>(first: &'a [u8], words: &'a [u8]) -> Result<(), Diagnostic<'a>
         return hold_asking(words, "solicit K VMAC");
     }
     if first == b"send".as_slice() {
-        let (node, words) = word_of(words, SEND)?;
-        let (dest, words) = word_of(words, SEND)?;
-        index(node)?;
-        hold_vmac(dest)?;
-        return hold_octets(words);
+        return hold_send(words);
     }
     hold_step(first, words)
 }
 
 /// A line that does something.
-fn hold_line<'a>(line: &'a [u8]) -> Result<(), Diagnostic<'a>> {
+fn hold_line<'a>(line: &'a [u8]) -> Result<(), Diagnostic<'a>>
+    ensures { TellsFirst result (network_broken (words_of line.now)) }
+{
     let Some((first, words)) = next_word(line) else {
         return Ok(());
     };
@@ -143,13 +191,14 @@ fn hold_line<'a>(line: &'a [u8]) -> Result<(), Diagnostic<'a>> {
 
 /// The rule that a line breaks which has no form of a line of a network's script; None of one that has.
 pub fn why_network_line<'a>(alloc: Global, line: &'a [u8]) -> Option<Diagnostic<'a>>
-    ensures { IfSome result (λ reason. line_of line.now ≡ None) }
+    ensures refused { IfSome result (λ reason. line_of line.now ≡ None) }
+    ensures told { IfSome result (λ reason. Says reason (or_no_line (codes "it is no line of a network's script") (network_broken (words_of line.now)))) }
 {
     match read_line(alloc, line) {
         Ok(_) | Err(LineFault::NoMemory) => None,
-        Err(LineFault::Refused) => match hold_line(line) {
-            Err(reason) => Some(reason),
-            Ok(()) => Some(NO_LINE),
-        },
+        Err(LineFault::Refused) => Some(told_or(
+            hold_line(line),
+            "it is no line of a network's script",
+        )),
     }
 }
