@@ -6,6 +6,7 @@ use Rattle.bsc_history.specs.declared.entry.Entry.{Entry}
 use Rattle.bsc_turn.specs.Passes.{own_list}
 use Rattle.bsc_outside.specs.Faults.{HasRisen}
 use Rattle.bsc_player.specs.LastLines.{RanOut}
+use Rattle.bsc_edge.specs.declared.begun.Begun.{Begun as BegunCall}
 use Rattle.bsc_edge.specs.declared.fault.LinkFault.{LinkFault}
 use Rattle.bsc_edge.specs.declared.fault.LinkFault.TheVariants.{Failed}
 use Rattle.bsc_edge.specs.Told.{Grows, Stays, ToldIs}
@@ -17,7 +18,8 @@ use Rattle.bsc_serve.specs.Asking.{AskedSo, Asking, last_look, look_at}
 use Rattle.bsc_serve.specs.Serving.{Loses, RoseBy, Serving}
 use Rattle.bsc_serve.specs.Terms.{all_terms}
 use Rattle.bsc_serve.specs.Worlds.{ServeWorld, served_world}
-use Rattle.bsc_hub_command.specs.Served.{Bound, HasFailed, HubCourse, HubTelling, HubTerms, HubWorld, NotBound, SaysEnd, Titling, Untitled, terms_by, terms_of, with_pass}
+use Rattle.bsc_hub_command.specs.Served.{Begun, Bound, HasFailed, HubCourse, HubTelling, HubTerms, HubWorld, NotBound, SaysEnd, Titling, Unbegun, Untitled}
+use Rattle.bsc_hub_command.specs.Served.{status_with, terms_by, terms_of, with_pass}
 use Rattle.bsc_outside.proofs.Common.{risen_from}
 
 tells_still : {A : Type 0} → (a b : Option A) (x : A) → ToldIs a x → Stays a b → ToldIs b x
@@ -56,15 +58,16 @@ looks_so own l m n a b c end still looks told same =
 
 module _ {L C N : Type 0} (tells : HubTelling L C N) where
   pub bound_so : (asked : HubTerms) (k : HubCourse) (titled held' : Option (List ℕ)) (before after : HubWorld L C N) (links came : Option (List L))
-      (waits : Option (List ℕ)) (quiets : ℕ) (told : Option (Option ℕ)) (s : ℕ) (end : ServeEnd) (terms : ServeTerms) (port : ℕ)
+      (waits : Option (List ℕ)) (quiets : ℕ) (told : Option (Option ℕ)) (said : ℕ) (end : ServeEnd) (terms : ServeTerms) (port : ℕ)
       → terms ≡ terms_by asked.settings asked.sessions → port ≡ asked.settings.port → ToldIs told (Some port) → Stays told after.port
       → Stays before.links links → Stays before.came came → Stays before.waits waits → before.quiets ≤ quiets
       → Serving tells.works tells.begins tells.talk (all_terms terms asked.prefix asked.policy)
       (served_world k.hub titled (record (with_pass k.first before) { links = links; came = came; waits = waits; quiets = quiets })) (served_world k.hub held' (with_pass k.last after)) end
-      → SaysEnd end s before.written after.written → (mid : Asking) → AskedSo (own_list k.first) waits after.waits before.asking mid end
+      → SaysEnd end said before.written after.written → (mid : Asking) → AskedSo (own_list k.first) waits after.waits before.asking mid end
       → after.asking.looks ≡ mid.looks → after.asking.asked ≡ mid.asked → Grows mid.endings after.asking.endings (after.written ∷ [])
+      → (s : ℕ) (are_lost : Bool) → Grows before.lost after.lost (are_lost ∷ []) → s ≡ status_with are_lost said
       → Bound tells k asked titled held' before after s
-  bound_so asked k titled held' before after links came waits quiets told s end terms port same same_port bound stays left arrived asks later serving says mid looks looks_same asks_same ended =
+  bound_so asked k titled held' before after links came waits quiets told said end terms port same same_port bound stays left arrived asks later serving says mid looks looks_same asks_same ended s are_lost counted status =
       let first : ServeWorld L C N = record (with_pass k.first before) { links = links; came = came; waits = waits; quiets = quiets } in
       let b : Serving tells.works tells.begins tells.talk (terms_of asked) (served_world k.hub titled first) (served_world k.hub held' (with_pass k.last after)) end =
       subst (λ (t : ServeTerms). Serving tells.works tells.begins tells.talk (all_terms t asked.prefix asked.policy) (served_world k.hub titled first)
@@ -112,7 +115,11 @@ module _ {L C N : Type 0} (tells : HubTelling L C N) where
           has_line = b.has_line;
           ends = b.ends;
         };
+        said = said;
         says = says;
+        are_lost = are_lost;
+        counted = counted;
+        status = status;
         looks = looks_so (own_list k.first) before.waits waits after.waits before.asking mid after.asking end asks looks looks_same asks_same;
         told = subst (λ (x : Option (List (Option (List ℕ)))). Grows x after.asking.endings (after.written ∷ [])) looks.looked.endings ended;
       }
@@ -141,6 +148,15 @@ pub told_so : {F X Y Z : Type 0} → F ⊎ X → (X → Y ⊎ Z) → F ⊎ Y ⊎
 told_so (inl x) f = inl x
 told_so (inr x) f = inr (f x)
 
+risen_until : (a b c : ℕ) → b ≤ c → HasRisen a b → HasRisen a c
+risen_until a b c later (inl x) = inl (omega (arith, later, x))
+risen_until a b c later (inr x) = inr (omega (arith, later, x))
+
+still_risen : {Y Z : Type 0} → (j m j' : ℕ) → m ≤ j' → Y ⊎ HasRisen j m ⊎ Z → Y ⊎ HasRisen j j' ⊎ Z
+still_risen j m j' later (inl x) = inl x
+still_risen j m j' later (inr (inl x)) = inr (inl (risen_until j m j' later x))
+still_risen j m j' later (inr (inr x)) = inr (inr x)
+
 pub later_so : {X Y : Type 0} → (n m k : ℕ) → n ≤ m → X ⊎ Y ⊎ HasRisen m k → X ⊎ Y ⊎ HasRisen n k
 later_so n m k later (inl x) = inl x
 later_so n m k later (inr (inl x)) = inr (inl x)
@@ -150,10 +166,15 @@ pub sooner : {X : Type 0} → (a b c : ℕ) → a ≤ b → HasRisen b c ⊎ X �
 sooner a b c later (inl x) = inl (risen_from a b c later x)
 sooner a b c later (inr x) = inr x
 
--- ---- what became of a hub says nothing of the journals that couldn't be begun
+-- lines that were lost in serving, or why the status would be 4 without them
+pub lost_so : {X Y Z : Type 0} {lost : Type 0} → (j m j' : ℕ) → j ≤ m → m ≤ j' → (X → Y ⊎ HasRisen j m ⊎ Z) → (lost → HasRisen m j') → X ⊎ lost → Y ⊎ HasRisen j j' ⊎ Z
+lost_so j m j' before after said count (inl x) = still_risen j m j' after (said x)
+lost_so j m j' before after said count (inr x) = inr (inl (risen_from j m j' before (count x)))
 
-module _ {L C N : Type 0} (tells : HubTelling L C N) (k : HubCourse) (asked : HubTerms) (begun own : N) (before after : HubWorld L C N) (n s : ℕ) where
-  untitled_since : Untitled tells k begun own (record before { unbegun = n }) after s → Untitled tells k begun own before after s
+-- ---- what became of a hub says nothing of the journals that couldn't be begun, and nothing of how long files were to be
+
+module _ {L C N : Type 0} (tells : HubTelling L C N) (k : HubCourse) (asked : HubTerms) (begun own : N) (before after : HubWorld L C N) (n s : ℕ) (l : Option (List ℕ)) where
+  untitled_since : Untitled tells k begun own (record before { unbegun = n; limits = l }) after s → Untitled tells k begun own before after s
   untitled_since u = record {
     part = u.part;
     untouched = record {
@@ -167,6 +188,7 @@ module _ {L C N : Type 0} (tells : HubTelling L C N) (k : HubCourse) (asked : Hu
       given_back = u.untouched.given_back;
       out = u.untouched.out;
       unstarted = u.untouched.unstarted;
+      lost = u.untouched.lost;
       asking = u.untouched.asking;
     };
     unasked = u.unasked;
@@ -174,7 +196,7 @@ module _ {L C N : Type 0} (tells : HubTelling L C N) (k : HubCourse) (asked : Hu
     says = u.says;
   }
 
-  unbound_since : NotBound k (record before { unbegun = n }) after s → NotBound k before after s
+  unbound_since : NotBound k (record before { unbegun = n; limits = l }) after s → NotBound k before after s
   unbound_since b = record {
     pass = b.pass;
     links = b.links;
@@ -185,22 +207,84 @@ module _ {L C N : Type 0} (tells : HubTelling L C N) (k : HubCourse) (asked : Hu
     out = b.out;
     unstarted = b.unstarted;
     begun = b.begun;
+    lost = b.lost;
     asking = b.asking;
     failed = b.failed;
     says = b.says;
   }
 
-  bound_since : (titled held' : Option (List ℕ)) → Bound tells k asked titled held' (record before { unbegun = n }) after s
+  bound_since : (titled held' : Option (List ℕ)) → Bound tells k asked titled held' (record before { unbegun = n; limits = l }) after s
       → Bound tells k asked titled held' before after s
-  bound_since titled held' b = record { end = b.end; bound = b.bound; serving = b.serving; says = b.says; looks = b.looks; told = b.told }
+  bound_since titled held' b = record {
+    end = b.end;
+    bound = b.bound;
+    serving = b.serving;
+    said = b.said;
+    says = b.says;
+    are_lost = b.are_lost;
+    counted = b.counted;
+    status = b.status;
+    looks = b.looks;
+    told = b.told;
+  }
 
   went_since : (titled : Option (List ℕ))
-      → (NotBound k (record before { unbegun = n }) after s × (tells.held own ≡ titled)) ⊎ Bound tells k asked titled (tells.held own) (record before { unbegun = n }) after s
+      → (NotBound k (record before { unbegun = n; limits = l }) after s × (tells.held own ≡ titled)) ⊎ Bound tells k asked titled (tells.held own) (record before { unbegun = n; limits = l }) after s
       → (NotBound k before after s × (tells.held own ≡ titled)) ⊎ Bound tells k asked titled (tells.held own) before after s
   went_since titled (inl b) = inl (unbound_since b.0, b.1)
   went_since titled (inr b) = inr (bound_since titled (tells.held own) b)
 
-  pub titling_since : Titling tells k asked begun own (record before { unbegun = n }) after s
+  pub titling_since : Titling tells k asked begun own (record before { unbegun = n; limits = l }) after s
       → Titling tells k asked begun own before after s
   titling_since (inl u) = inl (untitled_since u)
   titling_since (inr t) = inr (t.0, t.1, went_since t.0 t.2)
+
+module _ {L C N : Type 0} (tells : HubTelling L C N) (k : HubCourse) (asked : HubTerms) (own : Option N) (before after : HubWorld L C N) (s : ℕ) (l : Option (List ℕ)) where
+  unbegun_since : Unbegun k asked own (record before { limits = l }) after s → Unbegun k asked own before after s
+  unbegun_since u = record {
+    none = u.none;
+    untouched = record {
+      links = u.untouched.links;
+      came = u.untouched.came;
+      waits = u.untouched.waits;
+      quiets = u.untouched.quiets;
+      port = u.untouched.port;
+      faults = u.untouched.faults;
+      jobs = u.untouched.jobs;
+      given_back = u.untouched.given_back;
+      out = u.untouched.out;
+      unstarted = u.untouched.unstarted;
+      lost = u.untouched.lost;
+      asking = u.untouched.asking;
+    };
+    begun = u.begun;
+    stops = u.stops;
+    says = u.says;
+  }
+
+  begun_since : Begun tells k asked own (record before { limits = l }) after s → Begun tells k asked own before after s
+  begun_since b = record {
+    begun = b.begun;
+    own = b.own;
+    of_pass = b.of_pass;
+    fresh = b.fresh;
+    keeps = b.keeps;
+    calls = b.calls;
+    called = b.called;
+    went = titling_since tells k asked b.begun b.own (record before { begun = b.calls }) after before.unbegun s l b.went;
+  }
+
+  abbrev Went : HubWorld L C N → Type 0
+  Went world = Unbegun k asked own world after s ⊎ Begun tells k asked own world after s
+
+  went_before : Went (record before { limits = l }) → Went before
+  went_before (inl u) = inl (unbegun_since u)
+  went_before (inr b) = inr (begun_since b)
+
+  -- nor is what became of a hub told by how its files were limited before
+  pub went_since_limits : (begun : Option (List BegunCall)) (unbegun : ℕ) (lost : Option (List Bool)) → begun ≡ before.begun → unbegun ≡ before.unbegun → lost ≡ before.lost
+      → Went (record before { begun = begun; unbegun = unbegun; lost = lost; limits = l }) → Went before
+  went_since_limits begun unbegun lost calls faults same went =
+      let a = subst (λ (x : Option (List BegunCall)). Went (record before { begun = x; unbegun = unbegun; lost = lost; limits = l })) calls went in
+      let b = subst (λ (x : ℕ). Went (record before { unbegun = x; lost = lost; limits = l })) faults a in
+      went_before (subst (λ (x : Option (List Bool)). Went (record before { lost = x; limits = l })) same b)

@@ -1,5 +1,5 @@
 -- What serving a hub by its settings comes to.
-use Rattle.std.specs.Prelude.{◌≡◌, ◌≢◌, ℕ, ◌⊎◌, true, false, List, [], ◌∷◌, Option, Some, None, Result, option_map}
+use Rattle.std.specs.Prelude.{◌≡◌, ◌≢◌, ◌==◌, if◌then◌else◌, Bool, ℕ, ◌⊎◌, true, false, List, [], ◌∷◌, Option, Some, None, Result, option_map}
 use Rattle.std.specs.declared.alloc.Global.{Global}
 use Rattle.std.specs.declared.sync.Arc.{Arc}
 use Rattle.std.specs.Arc.{arc_value}
@@ -48,6 +48,15 @@ SaysEnd AcceptFault s before after = EndsWith s 6 before after link_line
 SaysEnd JournalFault s before after = (s ≡ 4) × (after ≡ before)
 SaysEnd NoMemory s before after = RanOut s before after
 
+-- the status of a hub that has ended, by whether lines of its journals were lost, and the status without that: 4 in place of 0
+abbrev pub status_with : Bool → ℕ → ℕ
+status_with are_lost said = if are_lost then (if said == 0 then 4 else said) else said
+
+-- Files of journals were limited to this length, where one was asked for, and else to none.
+abbrev pub LimitedTo : Option ℕ → Option (List ℕ) → Option (List ℕ) → Type 0
+LimitedTo None before after = after ≡ before
+LimitedTo (Some octets) before after = Grows before after (octets ∷ [])
+
 -- the limits of a hub's sessions
 abbrev pub session_limits : HubSettings → SessionLimits
 session_limits v = record { times = times_of v }
@@ -59,8 +68,9 @@ terms_by v sessions = record { limits = session_limits v; turns = v.turns; sessi
 -- What there is outside the command at a moment, each as far as it is told: the links that the acceptor has left, those that
 -- came so far, the waits that it was asked for, its count of those in which none came, the port that it is bound to, and its count
 -- of faults; the jobs that the spawner has taken, what is left of those that it gave back, those of them that are out, and its
--- count of jobs that weren't started; the calls that began a journal, and the count of journals that couldn't be begun; what was
--- written; and what the asker tells of itself.
+-- count of jobs that weren't started; the calls that began a journal, the count of journals that couldn't be begun and of their lines
+-- that were lost, the answers whether some were, and the lengths to which files were limited; what was written; and what the asker
+-- tells of itself.
 pub record HubWorld (L C N : Type 0) : Type 0 where
   pub links : Option (List L)
   pub came : Option (List L)
@@ -74,6 +84,8 @@ pub record HubWorld (L C N : Type 0) : Type 0 where
   pub unstarted : ℕ
   pub begun : Option (List BegunCall)
   pub unbegun : ℕ
+  pub lost : Option (List Bool)
+  pub limits : Option (List ℕ)
   pub written : Option (List ℕ)
   pub asking : Asking
 
@@ -102,10 +114,26 @@ module _ {P L C N : Type 0} where
   abbrev pub stock_by : (P → Option (List (SessionJob L C N))) → (P → Option (List (SessionEnd L C N))) → (P → List (SessionJob L C N)) → (P → ℕ) → P → Stock L C N
   stock_by jobs given_back out unstarted p = record { jobs = jobs p; given_back = given_back p; out = out p; unstarted = unstarted p }
 
+-- What journals tell of themselves, each as far as they tell it.
+pub record Books : Type 0 where
+  -- the calls that began one
+  pub begun : Option (List BegunCall)
+  -- their count of those that couldn't be begun, and of lines that were lost
+  pub unbegun : ℕ
+  -- the answers whether lines were lost
+  pub lost : Option (List Bool)
+  -- the lengths to which files were limited
+  pub limits : Option (List ℕ)
+
+module _ {J : Type 0} where
+  -- The same of journals, by what tells it.
+  abbrev pub books_by : (J → Option (List BegunCall)) → (J → ℕ) → (J → Option (List Bool)) → (J → Option (List ℕ)) → J → Books
+  books_by begun unbegun lost limits j = record { begun = begun j; unbegun = unbegun j; lost = lost j; limits = limits j }
+
 module _ {A C P J L N : Type 0} where
   -- The same of the parts that a hub is served by, as these tell it, of what was written, and of the asker.
-  abbrev pub world_by : (A → Door L) → (P → Stock L C N) → (J → Option (List BegunCall)) → (J → ℕ) → ServingParts A C P J → Option (List ℕ) → Asking → HubWorld L C N
-  world_by door stock begun unbegun parts written asking = record {
+  abbrev pub world_by : (A → Door L) → (P → Stock L C N) → (J → Books) → ServingParts A C P J → Option (List ℕ) → Asking → HubWorld L C N
+  world_by door stock books parts written asking = record {
     links = (door parts.acceptor).links;
     came = (door parts.acceptor).came;
     waits = (door parts.acceptor).waits;
@@ -116,8 +144,10 @@ module _ {A C P J L N : Type 0} where
     given_back = (stock parts.spawner).given_back;
     out = (stock parts.spawner).out;
     unstarted = (stock parts.spawner).unstarted;
-    begun = begun parts.journals;
-    unbegun = unbegun parts.journals;
+    begun = (books parts.journals).begun;
+    unbegun = (books parts.journals).unbegun;
+    lost = (books parts.journals).lost;
+    limits = (books parts.journals).limits;
     written = written;
     asking = asking;
   }
@@ -144,13 +174,14 @@ module _ {L C N : Type 0} where
 abbrev pub HasFailed : {N : Type 0} → (N → ℕ) → Option N → Type 0
 HasFailed unput own = (sink : _) × (own ≡ Some sink) × (unput sink ≢ 0)
 
--- What a hub is served by: its settings, the policy in them, if there is one, how many sessions are awaited, and the prefix of
--- the journals, if there are journals.
+-- What a hub is served by: its settings, the policy in them, if there is one, how many sessions are awaited, the prefix of the
+-- journals, if there are journals, and to how many octets their files are limited, if they are.
 pub record HubTerms : Type 0 where
   pub settings : HubSettings
   pub policy : Option Policy
   pub sessions : Option ℕ
   pub prefix : Option (List ℕ)
+  pub limit : Option ℕ
 
 -- what a hub is served by, of what the functions of the command hand down
 abbrev pub terms_in : HubAsked → HubTerms
@@ -159,6 +190,7 @@ terms_in asked = record {
   policy = policy_of asked.policy.now;
   sessions = asked.sessions;
   prefix = option_map (λ p. p.now) asked.prefix;
+  limit = asked.limit;
 }
 
 abbrev pub terms_of : HubTerms → Terms
@@ -192,7 +224,7 @@ module _ {L C N : Type 0} where
     unstarted = w.unstarted;
   }
 
-  -- Nothing was asked of the acceptor, the spawner and the asker.
+  -- Nothing was asked of the acceptor, the spawner and the asker, nor whether lines of journals were lost.
   pub record Untouched (before after : HubWorld L C N) : Type 0 where
     pub links : after.links ≡ before.links
     pub came : after.came ≡ before.came
@@ -204,6 +236,7 @@ module _ {L C N : Type 0} where
     pub given_back : after.given_back ≡ before.given_back
     pub out : after.out ≡ before.out
     pub unstarted : after.unstarted ≡ before.unstarted
+    pub lost : after.lost ≡ before.lost
     pub asking : after.asking ≡ before.asking
 
   -- What is said where the own journal failed: the status is 4, and nothing is written; or there was no memory.
@@ -231,6 +264,7 @@ module _ {L C N : Type 0} where
     pub out : after.out ≡ before.out
     pub unstarted : after.unstarted ≡ before.unstarted
     pub begun : after.begun ≡ before.begun
+    pub lost : after.lost ≡ before.lost
     pub asking : after.asking ≡ before.asking
     pub failed : HasRisen before.faults after.faults
     pub says : EndsWith s 6 before.written after.written link_line
@@ -247,13 +281,18 @@ module _ {L C N : Type 0} (tells : HubTelling L C N) where
 
   -- The port of the settings was bound, the hub was served with their limits, turns and policy, and what is written tells how
   -- that ended. Its own journal held the first line then, and what serving puts into it came behind that. The end is that of a stop
-  -- that was asked for only where the asker asked; and the asker was told of the end once, when all was written.
+  -- that was asked for only where the asker asked; and the asker was told of the end once, when all was written. It was asked once
+  -- whether lines of journals were lost: where some were, the status is 4 in place of 0.
   pub record Bound (k : HubCourse) (asked : HubTerms) (titled held' : Option (List ℕ)) (before after : HubWorld L C N) (s : ℕ) : Type 0 where
     pub end : ServeEnd
     pub bound : ToldIs after.port (Some asked.settings.port)
     pub serving : Serving tells.works tells.begins tells.talk (terms_of asked) (served_world k.hub titled (with_pass k.first before))
         (served_world k.hub held' (with_pass k.last after)) end
-    pub says : SaysEnd end s before.written after.written
+    pub said : ℕ
+    pub says : SaysEnd end said before.written after.written
+    pub are_lost : Bool
+    pub counted : Grows before.lost after.lost (are_lost ∷ [])
+    pub status : s ≡ status_with are_lost said
     pub looks : AskedSo (own_list k.first) before.waits after.waits before.asking (record after.asking { endings = before.asking.endings }) end
     pub told : Grows before.asking.endings after.asking.endings (after.written ∷ [])
 
@@ -292,5 +331,7 @@ module _ {L C N : Type 0} (tells : HubTelling L C N) where
     pub said : IsHubLine (hub_text (about_of (arc_value hub))) (about_of (arc_value hub))
     -- and its identity has 26 octets, which say it;
     pub identity : IsIdentity (about_of (arc_value hub)).hub
+    -- the files of its journals were limited as was asked for;
+    pub limited : LimitedTo asked.limit before.limits after.limits
     pub went : Unbegun (record { hub = arc_value hub; first = first; last = last }) asked place.own before after s
         ⊎ Begun (record { hub = arc_value hub; first = first; last = last }) asked place.own before after s

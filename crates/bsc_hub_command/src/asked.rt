@@ -14,4 +14,6 @@ pub struct HubAsked<'a> {
     pub sessions: Option<u64>,
     /// Under what prefix journals are kept, if they are.
     pub prefix: Option<&'a str>,
+    /// To how many octets their files are limited, if they are.
+    pub limit: Option<u64>,
 }

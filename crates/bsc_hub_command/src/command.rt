@@ -10,7 +10,7 @@ ghost use Rattle.bsc_session.specs.Jobs.{Worked, policy_of};
 ghost use Rattle.bsc_serve.specs.Asking.{asking_by};
 ghost use Rattle.bsc_settings.specs.declared.hub.HubSettings.{HubSettings as HubSettingsType};
 ghost use Rattle.bsc_hub_command.specs.Lines.{settings_line};
-ghost use Rattle.bsc_hub_command.specs.Served.{HasFailed, HubRuns, door_by, stock_by, telling, world_by};
+ghost use Rattle.bsc_hub_command.specs.Served.{HasFailed, HubRuns, books_by, door_by, stock_by, telling, world_by};
 ghost use Rattle.bsc_hub_command.specs.Settled.{IsSettled, Unsettled};
 
 use crate::asked::HubAsked;
@@ -152,12 +152,12 @@ pub fn run_hub<
     ensures runs { (hub : _) → place.new.kept.hub ≡ Some hub → (v : HubSettingsType) × (policy : Option PolicyType)
         × IsSettled (GaveFile F.holds F.loads files.old files.new words.entry.path.now) v policy
         × HubRuns (telling (Worked L.talk L.faults L.notices C.readings N.held N.faults) J.begins L.talk N.held N.faults)
-        (record { settings = v; policy = policy; sessions = words.entry.sessions; prefix = option_map (λ p. p.now) words.entry.journal })
+        (record { settings = v; policy = policy; sessions = words.entry.sessions; prefix = option_map (λ p. p.now) words.entry.journal; limit = words.entry.limit })
         place.new
         (world_by (door_by A.left A.came A.waits A.quiets A.bound A.faults) (stock_by P.jobs P.ends P.out P.faults)
-        J.calls J.faults parts.old (K.held sink.old) (asking_by Q.looks Q.asked Q.endings asker.old))
+        (books_by J.calls J.faults J.lost J.limits) parts.old (K.held sink.old) (asking_by Q.looks Q.asked Q.endings asker.old))
         (world_by (door_by A.left A.came A.waits A.quiets A.bound A.faults) (stock_by P.jobs P.ends P.out P.faults)
-        J.calls J.faults parts.new (K.held sink.new) (asking_by Q.looks Q.asked Q.endings asker.new)) result }
+        (books_by J.calls J.faults J.lost J.limits) parts.new (K.held sink.new) (asking_by Q.looks Q.asked Q.endings asker.new)) result }
 
     // Where none is made, the file wasn't read, its settings were refused, or memory ran out; and nothing was touched but the
     // files and the sink, the asker neither.
@@ -180,6 +180,7 @@ pub fn run_hub<
                 policy: &settings.policy,
                 sessions: words.sessions,
                 prefix: words.journal,
+                limit: words.limit,
             },
             place,
             sink,

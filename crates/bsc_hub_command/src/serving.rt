@@ -1,5 +1,5 @@
 //! Making a hub by its settings, and serving it.
-ghost use Rattle.std.specs.Prelude.{◌≡◌, ◌≤◌, ◌⊎◌, [], None, Option, Some, Err, IfOk, OnOk, OnErr};
+ghost use Rattle.std.specs.Prelude.{◌≡◌, ◌≤◌, ◌⊎◌, [], None, Option, Some, Err, IfOk, OnOk, OnErr, true};
 ghost use Rattle.std.specs.Io.KnownBytes.{Appends};
 ghost use Rattle.std.specs.Arc.{arc_value};
 ghost use Rattle.bsc_outside.specs.Faults.{HasRisen, PutsPrefix};
@@ -15,8 +15,8 @@ ghost use Rattle.bsc_serve.specs.Asking.{asking_by};
 ghost use Rattle.bsc_journal.specs.Saying.{IsHubLine, IsIdentity};
 ghost use Rattle.bsc_hub_command.specs.HubLines.{hub_line, hub_text};
 ghost use Rattle.bsc_hub_command.specs.Lines.{end_text};
-ghost use Rattle.bsc_hub_command.specs.Served.{Begun, Bound, HasFailed, HubRuns, NotBound, SaysEnd, StopsAlone, Titling, Unbegun, door_by, stock_by};
-ghost use Rattle.bsc_hub_command.specs.Served.{telling, terms_by, terms_in, world_by};
+ghost use Rattle.bsc_hub_command.specs.Served.{Begun, Bound, HasFailed, HubRuns, LimitedTo, NotBound, SaysEnd, StopsAlone, Titling, Unbegun, books_by, door_by};
+ghost use Rattle.bsc_hub_command.specs.Served.{status_with, stock_by, telling, terms_by, terms_in, world_by};
 
 use crate::asked::HubAsked;
 use crate::made::MadeHub;
@@ -77,6 +77,28 @@ fn tell_lost<K: Sink>(sink: &mut K, fault: LinkFault) -> u8
     match fault {
         LinkFault::Failed => 4,
         LinkFault::NoMemory => out_of_memory(sink),
+    }
+}
+
+/// The status of a hub that has ended, by whether lines of its journals were lost: 4 in place of 0, where they were.
+fn status_with(are_lost: bool, said: u8) -> u8
+    ensures status { result ≡ status_with are_lost said }
+    ensures lost { result ≡ 4 → (said ≡ 4) ⊎ (are_lost ≡ true) }
+    ensures link { result ≡ 6 → said ≡ 6 }
+    ensures statuses { (result ≡ said) ⊎ (result ≡ 4) }
+{
+    if are_lost && said == 0 { 4 } else { said }
+}
+
+/// Limits the files of journals, where that is asked for.
+fn limit_files<N: Sink, J: Journals<N>>(journals: &mut J, limit: Option<u64>)
+    ensures limited { LimitedTo limit (J.limits journals.old) (J.limits journals.new) }
+    ensures begun { J.calls journals.new ≡ J.calls journals.old }
+    ensures unlost { J.lost journals.new ≡ J.lost journals.old }
+    ensures same { J.faults journals.new ≡ J.faults journals.old }
+{
+    if let Some(octets) = limit {
+        journals.set_limit(octets);
     }
 }
 
@@ -168,18 +190,18 @@ fn serve_hub<
     requires pass { IsCaller (arc_value made.hub.now) pass.old }
     ensures went { (NotBound (record { hub = arc_value made.entry.hub.now; first = pass.old; last = pass.new })
         (world_by (door_by A.left A.came A.waits A.quiets A.bound A.faults) (stock_by P.jobs P.ends P.out P.faults)
-        J.calls J.faults parts.old (K.held sink.old) (asking_by Q.looks Q.asked Q.endings asker.old))
+        (books_by J.calls J.faults J.lost J.limits) parts.old (K.held sink.old) (asking_by Q.looks Q.asked Q.endings asker.old))
         (world_by (door_by A.left A.came A.waits A.quiets A.bound A.faults) (stock_by P.jobs P.ends P.out P.faults)
-        J.calls J.faults parts.new (K.held sink.new) (asking_by Q.looks Q.asked Q.endings asker.new)) result
+        (books_by J.calls J.faults J.lost J.limits) parts.new (K.held sink.new) (asking_by Q.looks Q.asked Q.endings asker.new)) result
         × (N.held own.new ≡ N.held own.old))
         ⊎ Bound (telling (Worked L.talk L.faults L.notices C.readings N.held N.faults) J.begins L.talk N.held N.faults)
         (record { hub = arc_value made.entry.hub.now; first = pass.old; last = pass.new })
         (terms_in asked.entry)
         (N.held own.old) (N.held own.new)
         (world_by (door_by A.left A.came A.waits A.quiets A.bound A.faults) (stock_by P.jobs P.ends P.out P.faults)
-        J.calls J.faults parts.old (K.held sink.old) (asking_by Q.looks Q.asked Q.endings asker.old))
+        (books_by J.calls J.faults J.lost J.limits) parts.old (K.held sink.old) (asking_by Q.looks Q.asked Q.endings asker.old))
         (world_by (door_by A.left A.came A.waits A.quiets A.bound A.faults) (stock_by P.jobs P.ends P.out P.faults)
-        J.calls J.faults parts.new (K.held sink.new) (asking_by Q.looks Q.asked Q.endings asker.new)) result }
+        (books_by J.calls J.faults J.lost J.limits) parts.new (K.held sink.new) (asking_by Q.looks Q.asked Q.endings asker.new)) result }
     ensures write { result ≡ 4 → HasRisen (K.faults sink.old) (K.faults sink.new)
         ⊎ HasRisen (J.faults parts.old.journals) (J.faults parts.new.journals)
         ⊎ HasRisen (N.faults own.old) (N.faults own.new) }
@@ -188,6 +210,7 @@ fn serve_hub<
     ensures writes_later { K.faults sink.old ≤ K.faults sink.new }
     ensures links_later { A.faults parts.old.acceptor ≤ A.faults parts.new.acceptor }
     ensures journals_later { J.faults parts.old.journals ≤ J.faults parts.new.journals }
+    ensures unlimited { J.limits parts.new.journals ≡ J.limits parts.old.journals }
     ensures own_later { N.faults own.old ≤ N.faults own.new }
 {
     let settings = asked.settings;
@@ -204,9 +227,10 @@ fn serve_hub<
                 policy: asked.policy,
             };
             let end = serve_on(served, pass, own, parts, asker);
-            let status = tell_end(made.alloc, sink, end);
+            let are_lost = parts.journals.count_lost();
+            let said = tell_end(made.alloc, sink, end);
             asker.end(&*sink);
-            status
+            status_with(are_lost, said)
         }
     }
 }
@@ -240,9 +264,9 @@ fn serve_titled<
         (terms_in asked.entry)
         own.old own.new
         (world_by (door_by A.left A.came A.waits A.quiets A.bound A.faults) (stock_by P.jobs P.ends P.out P.faults)
-        J.calls J.faults parts.old (K.held sink.old) (asking_by Q.looks Q.asked Q.endings asker.old))
+        (books_by J.calls J.faults J.lost J.limits) parts.old (K.held sink.old) (asking_by Q.looks Q.asked Q.endings asker.old))
         (world_by (door_by A.left A.came A.waits A.quiets A.bound A.faults) (stock_by P.jobs P.ends P.out P.faults)
-        J.calls J.faults parts.new (K.held sink.new) (asking_by Q.looks Q.asked Q.endings asker.new)) result }
+        (books_by J.calls J.faults J.lost J.limits) parts.new (K.held sink.new) (asking_by Q.looks Q.asked Q.endings asker.new)) result }
     ensures write { result ≡ 4 → HasRisen (K.faults sink.old) (K.faults sink.new)
         ⊎ HasRisen (J.faults parts.old.journals) (J.faults parts.new.journals)
         ⊎ HasRisen (N.faults own.old) (N.faults own.new) }
@@ -251,6 +275,7 @@ fn serve_titled<
     ensures writes_later { K.faults sink.old ≤ K.faults sink.new }
     ensures links_later { A.faults parts.old.acceptor ≤ A.faults parts.new.acceptor }
     ensures journals_later { J.faults parts.old.journals ≤ J.faults parts.new.journals }
+    ensures unlimited { J.limits parts.new.journals ≡ J.limits parts.old.journals }
     ensures own_later { N.faults own.old ≤ N.faults own.new }
 {
     match put_title(made.alloc, own, about_by(asked.settings)) {
@@ -289,17 +314,17 @@ fn serve_begun<
     requires own { own.old ≡ None }
     ensures went { Unbegun (record { hub = arc_value made.entry.hub.now; first = pass.old; last = pass.new }) (terms_in asked.entry) own.new
         (world_by (door_by A.left A.came A.waits A.quiets A.bound A.faults) (stock_by P.jobs P.ends P.out P.faults)
-        J.calls J.faults parts.old (K.held sink.old) (asking_by Q.looks Q.asked Q.endings asker.old))
+        (books_by J.calls J.faults J.lost J.limits) parts.old (K.held sink.old) (asking_by Q.looks Q.asked Q.endings asker.old))
         (world_by (door_by A.left A.came A.waits A.quiets A.bound A.faults) (stock_by P.jobs P.ends P.out P.faults)
-        J.calls J.faults parts.new (K.held sink.new) (asking_by Q.looks Q.asked Q.endings asker.new)) result
+        (books_by J.calls J.faults J.lost J.limits) parts.new (K.held sink.new) (asking_by Q.looks Q.asked Q.endings asker.new)) result
         ⊎ Begun (telling (Worked L.talk L.faults L.notices C.readings N.held N.faults) J.begins L.talk N.held N.faults)
         (record { hub = arc_value made.entry.hub.now; first = pass.old; last = pass.new })
         (terms_in asked.entry)
         own.new
         (world_by (door_by A.left A.came A.waits A.quiets A.bound A.faults) (stock_by P.jobs P.ends P.out P.faults)
-        J.calls J.faults parts.old (K.held sink.old) (asking_by Q.looks Q.asked Q.endings asker.old))
+        (books_by J.calls J.faults J.lost J.limits) parts.old (K.held sink.old) (asking_by Q.looks Q.asked Q.endings asker.old))
         (world_by (door_by A.left A.came A.waits A.quiets A.bound A.faults) (stock_by P.jobs P.ends P.out P.faults)
-        J.calls J.faults parts.new (K.held sink.new) (asking_by Q.looks Q.asked Q.endings asker.new)) result }
+        (books_by J.calls J.faults J.lost J.limits) parts.new (K.held sink.new) (asking_by Q.looks Q.asked Q.endings asker.new)) result }
     ensures write { result ≡ 4 → HasRisen (K.faults sink.old) (K.faults sink.new)
         ⊎ HasRisen (J.faults parts.old.journals) (J.faults parts.new.journals) ⊎ HasFailed N.faults own.new }
     ensures link { RisesIf result 6 (A.faults parts.old.acceptor) (A.faults parts.new.acceptor) }
@@ -307,6 +332,7 @@ fn serve_begun<
     ensures writes_later { K.faults sink.old ≤ K.faults sink.new }
     ensures links_later { A.faults parts.old.acceptor ≤ A.faults parts.new.acceptor }
     ensures journals_later { J.faults parts.old.journals ≤ J.faults parts.new.journals }
+    ensures unlimited { J.limits parts.new.journals ≡ J.limits parts.old.journals }
 {
     let alloc = made.alloc;
     match parts.journals.begin(alloc, asked.prefix, pass.number()) {
@@ -354,9 +380,9 @@ pub fn serve<
         HubRuns (telling (Worked L.talk L.faults L.notices C.readings N.held N.faults) J.begins L.talk N.held N.faults)
         (terms_in asked.entry) place.new
         (world_by (door_by A.left A.came A.waits A.quiets A.bound A.faults) (stock_by P.jobs P.ends P.out P.faults)
-        J.calls J.faults parts.old (K.held sink.old) (asking_by Q.looks Q.asked Q.endings asker.old))
+        (books_by J.calls J.faults J.lost J.limits) parts.old (K.held sink.old) (asking_by Q.looks Q.asked Q.endings asker.old))
         (world_by (door_by A.left A.came A.waits A.quiets A.bound A.faults) (stock_by P.jobs P.ends P.out P.faults)
-        J.calls J.faults parts.new (K.held sink.new) (asking_by Q.looks Q.asked Q.endings asker.new)) result }
+        (books_by J.calls J.faults J.lost J.limits) parts.new (K.held sink.new) (asking_by Q.looks Q.asked Q.endings asker.new)) result }
 
     // Where none is made there was no memory, and nothing was touched but the sink.
     ensures unmade { place.new.kept.hub ≡ None → RanOut result (K.held sink.old) (K.held sink.new) }
@@ -375,6 +401,7 @@ pub fn serve<
         return out_of_memory(sink);
     };
     let mut pass = pass;
+    limit_files(&mut parts.journals, asked.limit);
     let status = serve_begun(
         MadeHub {
             rt,

@@ -1,6 +1,6 @@
 //! What the words of the command say.
 
-/// What the words `hub PATH` say, with `--sessions N` and `--journal PREFIX` where they are there.
+/// What the words `hub PATH` say, with `--sessions N`, `--journal PREFIX` and `--journal-octets N` where they are there.
 #[derive(Clone, Copy)]
 pub struct HubWords<'a> {
     /// Where the settings are.
@@ -9,4 +9,6 @@ pub struct HubWords<'a> {
     pub sessions: Option<u64>,
     /// Under what prefix journals are kept, if they are.
     pub journal: Option<&'a str>,
+    /// To how many octets their files are limited, if they are.
+    pub limit: Option<u64>,
 }

@@ -1,6 +1,6 @@
 -- The journals of a hub that the command made may be believed.
 -- It serves the clauses of `command_audits`.
-use Rattle.std.proofs.Common.{inl, inr, ◌≡◌, ◌⊎◌, ℕ, ◌^◌, ◌≤◌, true, List, [], ◌∷◌, ◌++◌, codes, Option, Some, None, refl, ap, sym, ◌∙◌, subst, arith}
+use Rattle.std.proofs.Common.{◌==◌, if◌then◌else◌, inl, inr, ◌≡◌, ◌⊎◌, ℕ, ◌^◌, ◌≤◌, Bool, true, false, List, [], ◌∷◌, ◌++◌, codes, Option, Some, None, refl, ap, sym, ◌∙◌, subst, arith}
 use Rattle.std.specs.Arc.{arc_value}
 use Rattle.std.specs.Io.KnownBytes.{Appends}
 use Rattle.bsc_lemmas.proofs.Lists.{appends_to}
@@ -10,6 +10,7 @@ use Rattle.bsc_edge.specs.declared.begun.Begun.{Begun as BegunCall}
 use Rattle.bsc_edge.specs.declared.fault.LinkFault.{LinkFault}
 use Rattle.bsc_edge.specs.declared.notice.Notice.{Notice}
 use Rattle.bsc_edge.specs.declared.said.Said.{Said}
+use Rattle.bsc_edge.specs.Told.{Grows}
 use Rattle.bsc_octets.specs.declared.bounds.TheConstants.{LEAST_BVLC}
 use Rattle.bsc_turn.specs.Passes.{number_of}
 use Rattle.bsc_hub.specs.Passing.{about_of}
@@ -31,8 +32,8 @@ use Rattle.bsc_settings.specs.Parts.{identity_of, limits_of}
 use Rattle.bsc_journal.specs.Saying.{is_short}
 use Rattle.bsc_hub_command.specs.declared.place.HubPlace.{HubPlace}
 use Rattle.bsc_hub_command.specs.HubLines.{hub_line, hub_text}
-use Rattle.bsc_hub_command.specs.Served.{Begun, Bound, HubCourse, HubRuns, HubTelling, HubTerms, HubWorld, SaysEnd, SaysLost, Titling, Unbegun, telling, terms_of, with_pass}
-use Rattle.bsc_journal_laws.specs.Commands.{CommandAudits, HasJournals, MayBeBelieved}
+use Rattle.bsc_hub_command.specs.Served.{Begun, Bound, HubCourse, HubRuns, HubTelling, HubTerms, HubWorld, SaysEnd, SaysLost, Titling, Unbegun, status_with, telling, terms_of, with_pass}
+use Rattle.bsc_journal_laws.specs.Commands.{CommandAudits, HasJournals, MayBeBelieved, NoneLost}
 use Rattle.bsc_journal_laws.specs.Runs.{IsBounded, IsRecorded, JournalsAreThere, RunAudits}
 use Rattle.bsc_journal_laws.proofs.Runs.{held_some}
 use Rattle.bsc_journal_laws.proofs.Shorts.{short_63}
@@ -53,6 +54,15 @@ unlost (Some fault) h = absurd h
 
 upper : (low n high : ℕ) → (low ≤ n) × (n ≤ high) → n ≤ high
 upper low n high h = h.1
+
+-- four in place of zero is no zero
+no_zero : (b : Bool) (said : ℕ) → (said == 0) ≡ b → 0 ≡ (if b then 4 else said) → ⊥
+no_zero true said is h = (let k : 0 ≡ 4 = h in omega (arith, k))
+no_zero false said is h = (let no : true ≡ false = subst (λ (n : ℕ). (n == 0) ≡ false) (sym h) is in cc)
+
+spared : (are_lost : Bool) (said : ℕ) → 0 ≡ status_with are_lost said → (are_lost ≡ false) × (said ≡ 0)
+spared false said h = (refl, sym h)
+spared true said h = absurd (no_zero (said == 0) said refl h)
 
 -- ---- what is fixed of a hub of settings
 
@@ -111,6 +121,7 @@ module _ {L C N : Type 0} (talk : L → Option (List Said)) (faults : L → ℕ)
       (named : asked.prefix ≡ Some prefix) (empty : (n : ℕ) (k : N) → begins (Some prefix) n k → held k ≡ Some []) where
     abbrev Audit : Type 0
     Audit = (k : HasJournals talk faults notices readings held unput begins place before after x.last) × MayBeBelieved talk faults notices readings held unput begins x.last k
+        × NoneLost talk faults notices readings held unput begins before after
 
     abbrev about : About
     about = about_of (arc_value x.hub)
@@ -136,9 +147,11 @@ module _ {L C N : Type 0} (talk : L → Option (List Said)) (faults : L → ℕ)
         let begun : held b.begun ≡ Some [] = empty (number_of x.first) b.begun (subst (λ (p : Option (List ℕ)). begins p (number_of x.first) b.begun) named b.of_pass) in
         let title : titled ≡ Some (hub_text about ++ 10 ∷ []) = appends_to (held b.begun) titled [] (hub_line about) begun put ∙ ap (λ (w : List ℕ). Some (hub_text about ++ w)) newline in
         let s = bound.serving in
+        let same = spared bound.are_lost bound.said bound.status in
         let holds = held_some titled (held b.own) (hub_text about ++ 10 ∷ []) (stop_notes (number_of x.first) s.stop) s.lost title s.records in
         let none = stop_put (terms_of asked) (served_world (arc_value x.hub) titled (with_pass x.first (begun_with b.calls)))
-        (served_world (arc_value x.hub) (held b.own) (with_pass x.last after)) bound.end before.written after.written s bound.says in
+        (served_world (arc_value x.hub) (held b.own) (with_pass x.last after)) bound.end before.written after.written s
+        (subst (λ (n : ℕ). SaysEnd bound.end n before.written after.written) same.1 bound.says) in
         let recorded : IsRecorded talk faults notices readings held unput begins (terms_of asked) (served_world (arc_value x.hub) titled (with_pass x.first (begun_with b.calls))) prefix
         (hub_text about) =
         record {
@@ -155,6 +168,7 @@ module _ {L C N : Type 0} (talk : L → Option (List Said)) (faults : L → ℕ)
           λ gs whole order few. audits (terms_of asked) (served_world (arc_value x.hub) titled (with_pass x.first (begun_with b.calls)))
               (served_world (arc_value x.hub) (held b.own) (with_pass x.last after)) bound.end prefix (hub_text about)
               holds.0 files.0 gs first_is x.new.2 recorded bounded s none holds.1 files.1 whole order few,
+          subst (λ (b : Bool). Grows before.lost after.lost (b ∷ [])) same.0 bound.counted,
         )
 
     titling : (b : Begun Tells course asked place.own before after 0) → Titling Tells course asked b.begun b.own (begun_with b.calls) after 0 → Audit

@@ -1,5 +1,5 @@
 -- The journals of a hub that the command `hub` made.
-use Rattle.std.specs.Prelude.{◌≡◌, ◌≤◌, ℕ, List, [], ◌∷◌, length, Option, Some, IsPermutation}
+use Rattle.std.specs.Prelude.{◌≡◌, ◌≤◌, ℕ, false, List, [], ◌∷◌, length, Option, Some, IsPermutation}
 use Rattle.bsc_history.specs.Marks.{entries}
 use Rattle.bsc_edge.specs.declared.notice.Notice.{Notice}
 use Rattle.bsc_edge.specs.declared.said.Said.{Said}
@@ -36,10 +36,14 @@ module _ {L C N : Type 0} (talk : L → Option (List Said)) (faults : L → ℕ)
       → IsPermutation (k.own_file ∷ k.files) gs → length (put_together gs) ≤ most_octets
       → Audited (put_together gs) (length (entries (seen last)))
 
+  -- The journals were asked once whether lines were lost, and none was, as far as they tell.
+  abbrev pub NoneLost : HubWorld L C N → HubWorld L C N → Type 0
+  NoneLost before after = Grows before.lost after.lost (false ∷ [])
+
   -- Where the command ended with status 0, and has journals that are begun with nothing in them and tell what they hold, these are
-  -- there, and they audit: with the first line, that of the hub.
+  -- there, and they audit: with the first line, that of the hub. And none of their lines was lost.
   abbrev pub CommandAudits : Type 0
   CommandAudits = (asked : HubTerms) (place : HubPlace N) (before after : HubWorld L C N) (prefix : List ℕ)
       → (x : HubRuns (telling (Worked talk faults notices readings held unput) begins talk held unput) asked place before after 0)
       → asked.prefix ≡ Some prefix → ((n : ℕ) (k : N) → begins (Some prefix) n k → held k ≡ Some [])
-      → (k : HasJournals place before after x.last) × MayBeBelieved x.last k
+      → (k : HasJournals place before after x.last) × MayBeBelieved x.last k × NoneLost before after

@@ -72,7 +72,8 @@ pub fn run_audits<L: Link, C: Clock, N: Sink, J: Journals<N>>()
 }
 
 /// The journals of a hub that the command `hub` made by settings, and that ended with status 0, are there, and may be believed
-/// with its first line, in any order, if no line of a session was lost and they are no more than an audit takes.
+/// with its first line, in any order, if no line of a session was lost and they are no more than an audit takes. None of their lines
+/// was lost, as far as that is told.
 pub fn command_audits<L: Link, C: Clock, N: Sink, J: Journals<N>>()
     ensures { CommandAudits L.talk L.faults L.notices C.readings N.held N.faults J.begins }
 {

@@ -15,7 +15,7 @@ returns-in-Ok-clause-runs g c hub is =
     let Q = g.Q.StopAsker in
     let W = Worked g.L.Link.talk g.L.Link.faults g.L.Link.notices g.C.Clock.readings N.held N.faults in
     let policy = policy_of c.in-Ok.settings.policy in
-    let asked : HubTerms = record { settings = c.in-Ok.settings.hub; policy = policy; sessions = c.args.words.sessions; prefix = option_map (λ p. p.now) c.args.words.journal } in
+    let asked : HubTerms = record { settings = c.in-Ok.settings.hub; policy = policy; sessions = c.args.words.sessions; prefix = option_map (λ p. p.now) c.args.words.journal; limit = c.args.words.limit } in
     let before : Option (List ℕ) → HubWorld g.row.L.Denot g.row.C.Denot g.row.N.Denot =
     λ (t : Option (List ℕ)). record {
       links = A.left c.args.parts.now.acceptor;
@@ -30,6 +30,8 @@ returns-in-Ok-clause-runs g c hub is =
       unstarted = P.faults c.args.parts.now.spawner;
       begun = J.calls c.args.parts.now.journals;
       unbegun = J.faults c.args.parts.now.journals;
+      lost = J.lost c.args.parts.now.journals;
+      limits = J.limits c.args.parts.now.journals;
       written = t;
       asking = asking_by Q.looks Q.asked Q.endings c.args.asker.now;
     } in
@@ -46,6 +48,8 @@ returns-in-Ok-clause-runs g c hub is =
       unstarted = P.faults c.serve.new.parts.spawner;
       begun = J.calls c.serve.new.parts.journals;
       unbegun = J.faults c.serve.new.parts.journals;
+      lost = J.lost c.serve.new.parts.journals;
+      limits = J.limits c.serve.new.parts.journals;
       written = g.K.Sink.held c.serve.new.sink;
       asking = asking_by Q.looks Q.asked Q.endings c.serve.new.asker;
     } in (

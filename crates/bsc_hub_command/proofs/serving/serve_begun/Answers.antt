@@ -1,10 +1,10 @@
-use Rattle.std.proofs.Common.{Err, true, false, [], ◌∷◌, ap, inl, inr, refl, subst, ℕ, ◌∙◌}
+use Rattle.std.proofs.Common.{Bool, Err, List, Option, true, false, [], ◌∷◌, ap, inl, inr, refl, subst, ℕ, ◌∙◌}
 use Rattle.std.specs.Arc.{arc_value}
 use Rattle.bsc_edge.specs.Told.{Grows}
 use Rattle.bsc_session.specs.Jobs.{Worked}
 use Rattle.bsc_serve.specs.Asking.{asking_by}
 use Rattle.bsc_serve.specs.Events.{begun_call}
-use Rattle.bsc_hub_command.specs.Served.{HubTerms, HubWorld, telling, terms_in}
+use Rattle.bsc_hub_command.specs.Served.{HubCourse, HubTelling, HubTerms, HubWorld, Titling, telling, terms_in}
 use Rattle.bsc_hub_command.proofs.Binding.{says_lost, titling_since, written_so}
 use Rattle.bsc_hub_command.proofs.serving.serve_begun.Goals as goal
 
@@ -30,6 +30,8 @@ returns-in-Ok-clause-went g c =
       unstarted = P.faults c.args.parts.now.spawner;
       begun = J.calls c.args.parts.now.journals;
       unbegun = J.faults c.args.parts.now.journals;
+      lost = J.lost c.args.parts.now.journals;
+      limits = J.limits c.args.parts.now.journals;
       written = g.K.Sink.held c.args.sink.now;
       asking = asking_by Q.looks Q.asked Q.endings c.args.asker.now;
     } in
@@ -47,9 +49,13 @@ returns-in-Ok-clause-went g c =
       unstarted = P.faults n.parts.spawner;
       begun = J.calls n.parts.journals;
       unbegun = J.faults n.parts.journals;
+      lost = J.lost n.parts.journals;
+      limits = J.limits n.parts.journals;
       written = g.K.Sink.held n.sink;
       asking = asking_by Q.looks Q.asked Q.endings n.asker;
     } in
+    let tells : HubTelling g.row.L.Denot g.row.C.Denot g.row.N.Denot = telling W J.begins g.L.Link.talk N.held N.faults in
+    let k : HubCourse = record { hub = arc_value c.args.made.hub.now; first = c.args.pass.now; last = n.pass } in
     inr (record {
       begun = c.in-Ok.begun;
       own = c.serve_titled-status.new.own;
@@ -58,9 +64,10 @@ returns-in-Ok-clause-went g c =
       keeps = refl;
       calls = J.calls c.begin.new.self;
       called = subst (λ (n : ℕ). Grows before.begun (J.calls c.begin.new.self) (begun_call asked.prefix true n ∷ [])) c.number.ensures c.in-Ok.ensures.told;
-      went = titling_since (telling W J.begins g.L.Link.talk N.held N.faults)
-          (record { hub = arc_value c.args.made.hub.now; first = c.args.pass.now; last = n.pass }) asked c.in-Ok.begun n.own (record before { begun = J.calls c.begin.new.self }) after
-          (J.faults c.begin.new.self) c.serve_titled-status.result c.serve_titled-status.ensures.went;
+      went = subst (λ (x : Option (List Bool)). Titling tells k asked c.in-Ok.begun n.own (record before { begun = J.calls c.begin.new.self; lost = x }) after c.serve_titled-status.result)
+          c.in-Ok.ensures.unlost
+          (titling_since tells k asked c.in-Ok.begun n.own (record before { begun = J.calls c.begin.new.self; lost = J.lost c.begin.new.self }) after
+          (J.faults c.begin.new.self) c.serve_titled-status.result (J.limits c.begin.new.self) c.serve_titled-status.ensures.went);
     })
 
 pub returns-in-Err-clause-went : goal.returns-in-Err-clause-went
@@ -70,7 +77,7 @@ returns-in-Err-clause-went g c =
     inl (record {
       none = c.requires.own;
       begun = subst (λ (n : ℕ). Grows (J.calls c.args.parts.now.journals) (J.calls c.begin.new.self) (begun_call asked.prefix false n ∷ [])) c.number.ensures c.in-Err.ensures.told;
-      untouched = record { links = refl; came = refl; waits = refl; quiets = refl; port = refl; faults = refl; jobs = refl; given_back = refl; out = refl; unstarted = refl; asking = refl };
+      untouched = record { links = refl; came = refl; waits = refl; quiets = refl; port = refl; faults = refl; jobs = refl; given_back = refl; out = refl; unstarted = refl; lost = c.begin.ensures.unlost; asking = refl };
       stops = c.stop_alone.ensures;
       says = says_lost c.tell_lost.result c.in-Err.fault _ _ _ (λ e. c.begin.ensures.failed (c.in-Err.is ∙ ap Err e)) c.tell_lost.ensures.says;
     })

@@ -20,7 +20,7 @@ returns-in-Err-clause-went g c =
     let held = g.N.Sink.held in
     inl (record {
       part = subst (λ (a : About). PutsPrefix (held c.args.own.now) (held c.put_title.new.own) (hub_line a)) (c.about_by.ensures ∙ sym c.requires.about) c.in-Err.ensures.part;
-      untouched = record { links = refl; came = refl; waits = refl; quiets = refl; port = refl; faults = refl; jobs = refl; given_back = refl; out = refl; unstarted = refl; asking = refl };
+      untouched = record { links = refl; came = refl; waits = refl; quiets = refl; port = refl; faults = refl; jobs = refl; given_back = refl; out = refl; unstarted = refl; lost = refl; asking = refl };
       unasked = refl;
       stops = c.stop_alone.ensures;
       says = says_lost c.tell_lost.result c.in-Err.fault _ _ _ (λ e. c.put_title.ensures.failed (c.in-Err.is ∙ ap Err e)) c.tell_lost.ensures.says;
