@@ -1,5 +1,5 @@
 -- A command that takes no words: what `clap` finds for it, its list, and calls for help.
--- It serves clauses of functions of `laws` and `reading`.
+-- It serves clauses of functions of `beside`, `laws` and `reading`.
 use Rattle.std.proofs.Common.{[], ◌∙◌, ◌∷◌, ◌≡◌, List, None, Option, Some, codes, false, is_some, refl, sym, true, true≢false}
 use Rattle.clap.proofs.OnLiterals.{clap_on_literals}
 use Rattle.clap.specs.Faults.{step_fault}

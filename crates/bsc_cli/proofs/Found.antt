@@ -1,5 +1,5 @@
 -- What is asked for by what `clap` finds.
--- It serves clauses of functions of `laws` and `reading`.
+-- It serves clauses of functions of `beside`, `laws` and `reading`.
 use Rattle.std.proofs.Common.{◌≡◌, ◌≢◌, ◌∙◌, Bool, true, List, [], ◌∷◌, Option, Some, None, codes, refl, sym, ap}
 use Rattle.std.proofs.lemmas.Bool.{and_parts}
 use Rattle.clap.specs.Words.{App, Kinds, Row, Text, fault_of, is_simple, is_simple_and_free, matches_of}

@@ -1,5 +1,5 @@
 -- Lists of words, and words that begin with no hyphen.
--- It serves clauses of functions of `laws` and `reading`.
+-- It serves clauses of functions of `beside`, `laws` and `reading`.
 use Rattle.std.proofs.Common.{[], ◌&&◌, ◌==◌, ◌∙◌, ◌∷◌, ◌≡◌, Bool, List, None, Option, Some, ap, codes, false, is_some, length, nat_le, not, option_map}
 use Rattle.std.proofs.Common.{refl, sym, true, true≢false, ℕ}
 use Rattle.std.proofs.lemmas.Bool.{and_parts, eqb-true, not-true}

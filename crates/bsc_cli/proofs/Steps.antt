@@ -1,5 +1,5 @@
 -- How `clap` walks over words, one at a time, where a command has no subcommands.
--- It serves clauses of functions of `laws` and `reading`.
+-- It serves clauses of functions of `beside`, `laws` and `reading`.
 use Rattle.std.proofs.Common.{◌≡◌, ◌∙◌, ℕ, false, List, [], ◌∷◌, fold, Option, Some, None, is_some, refl, ap, ap₂}
 use Rattle.clap.specs.Words.{App, Kinds, Row, Rule, Shape, Text}
 use Rattle.clap.specs.Lexer.{strip_byte}

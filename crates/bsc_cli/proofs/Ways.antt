@@ -1,5 +1,5 @@
 -- What is proved of each way to read words.
--- It serves clauses of functions of `laws` and `reading`.
+-- It serves clauses of functions of `beside`, `laws` and `reading`.
 use Rattle.std.proofs.Common.{◌∷◌, ◌≡◌, ◌≤◌, Bool, List, None, Option, Some, codes, false, is_some, true}
 use Rattle.std.specs.Prelude.{⊤, option_and_then}
 use Rattle.clap.specs.Words.{Row, Text, is_simple_and_free}

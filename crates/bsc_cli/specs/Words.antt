@@ -6,11 +6,28 @@ use Rattle.clap.specs.Words.{App, Kinds, Row, Rule, Text, fault_of, first_of, ma
 use Rattle.clap.specs.declared.builder.action.ArgAction.TheVariants.{SetTrue}
 use Rattle.bsc_text.specs.Grammar.{number_of}
 use Rattle.bsc_text.specs.Lines.{same_octets}
-use Rattle.bsc_cli.specs.declared.bounds.TheConstants.{SESSIONS, WORKERS}
+use Rattle.bsc_cli.specs.declared.bounds.TheConstants.{LEAST_OCTETS, MOST_OCTETS, SESSIONS, WORKERS}
 use Rattle.bsc_cli.specs.declared.asked.Asked.{Asked}
 use Rattle.bsc_cli.specs.declared.asked.Asked.TheVariants.{Replay, Simulate, Check, Audit, Hub, Node, LiveNode, Load, TestHub, TestNode}
+use Rattle.bsc_cli.specs.declared.asked.JournalWords.{JournalWords}
 use Rattle.bsc_cli.specs.declared.asked.Way.{Way}
 use Rattle.bsc_cli.specs.declared.asked.Way.TheVariants as way
+
+-- Journals under a prefix, and to how many octets each of their files is limited, if it is.
+pub record JournalsOf : Type 0 where
+  pub prefix : Text
+  pub limit : Option ℕ
+
+-- journals under this prefix, with files of any length
+abbrev pub under : Text → JournalsOf
+under prefix = record { prefix = prefix; limit = None }
+
+-- the prefix of journals, where there are some, and the limit of their files, where there is one
+abbrev pub prefix_in : Option JournalsOf → Option Text
+prefix_in journals = option_map (λ j. j.prefix) journals
+
+abbrev pub limit_in : Option JournalsOf → Option ℕ
+limit_in journals = option_and_then (λ j. j.limit) journals
 
 -- What words may ask for: a script of one hub is played, or one of a network; lines are checked; journals are audited; a hub
 -- is served by the settings at a path, until so many links have ended or for ever, with journals under a prefix or without, and
@@ -22,7 +39,7 @@ pub data AskedOf : Type 0 where
   simulate : AskedOf
   check : AskedOf
   audit : AskedOf
-  hub : Text → Option ℕ → Option Text → Option Text → AskedOf
+  hub : Text → Option ℕ → Option JournalsOf → Option Text → AskedOf
   node : Text → Text → AskedOf
   live_node : Text → AskedOf
   load : ℕ → AskedOf
@@ -47,15 +64,18 @@ required_flag name = record (new_rule name) { long = Some name; action = Some Se
 abbrev pub app_with : Text → List Rule → App
 app_with name rules = fold with_rule (new_app name) rules
 
--- `replay`, `simulate`, `check`, `audit`, `hub PATH [--sessions N] [--journal PREFIX] [--stop-file FILE]`, `node PATH SCRIPT` (SCRIPT may
--- be `-`), `load N`; and what tries settings, `hub PATH --test` and `node PATH SCRIPT --test`
+-- `replay`, `simulate`, `check`, `audit`, `hub PATH [--sessions N] [--journal PREFIX [--journal-octets N]] [--stop-file FILE]
+-- [--status-file FILE]`, `node PATH SCRIPT` (SCRIPT may be `-`), `load N`; and what tries settings, `hub PATH --test` and
+-- `node PATH SCRIPT --test`
 abbrev pub app_for : Way → App
 app_for way.Replay = app_with (codes "replay") []
 app_for way.Simulate = app_with (codes "simulate") []
 app_for way.Check = app_with (codes "check") []
 app_for way.Audit = app_with (codes "audit") []
 app_for way.Hub =
-    app_with (codes "hub") (required (codes "path") ∷ option (codes "sessions") ∷ option (codes "journal") ∷ option (codes "stop-file") ∷ [])
+    app_with (codes "hub")
+    (required (codes "path") ∷ option (codes "sessions") ∷ option (codes "journal") ∷ option (codes "journal-octets")
+    ∷ option (codes "stop-file") ∷ option (codes "status-file") ∷ [])
 app_for way.TestHub = app_with (codes "hub") (required (codes "path") ∷ required_flag (codes "test") ∷ [])
 app_for way.Node = app_with (codes "node") (required (codes "path") ∷ required (codes "script") ∷ [])
 app_for way.TestNode = app_with (codes "node") (required (codes "path") ∷ required (codes "script") ∷ required_flag (codes "test") ∷ [])
@@ -74,12 +94,23 @@ sessions_of word = up_to SESSIONS (number_of word)
 abbrev pub workers_of : Text → Option ℕ
 workers_of word = up_to WORKERS (number_of word)
 
--- a hub by its path, what is said of its sessions, where both are good, the prefix of its journals, and the path of the file that
--- stops it
-abbrev pub hub_of : Option Text → Option Text → Option Text → Option Text → Option AskedOf
-hub_of None sessions journal stop_file = None
-hub_of (Some path) None journal stop_file = Some (hub path None journal stop_file)
-hub_of (Some path) (Some word) journal stop_file = option_map (λ n. hub path (Some n) journal stop_file) (sessions_of word)
+-- how many octets a word says, from the least that a file may be limited to, to the most
+abbrev pub octets_of : Text → Option ℕ
+octets_of word = option_and_then (λ n. if nat_le LEAST_OCTETS n then Some n else None) (up_to MOST_OCTETS (number_of word))
+
+-- journals by their prefix and what is said of the octets of their files: none without a prefix, and octets neither
+abbrev pub journals_of : Option Text → Option Text → Option (Option JournalsOf)
+journals_of None None = Some None
+journals_of None (Some word) = None
+journals_of (Some prefix) None = Some (Some (under prefix))
+journals_of (Some prefix) (Some word) = option_map (λ n. Some (record { prefix = prefix; limit = Some n })) (octets_of word)
+
+-- a hub by its path, what is said of its sessions, its journals, where all are good, and the path of the file that stops it
+abbrev pub hub_of : Option Text → Option Text → Option (Option JournalsOf) → Option Text → Option AskedOf
+hub_of None sessions journals stop_file = None
+hub_of (Some path) sessions None stop_file = None
+hub_of (Some path) None (Some journals) stop_file = Some (hub path None journals stop_file)
+hub_of (Some path) (Some word) (Some journals) stop_file = option_map (λ n. hub path (Some n) journals stop_file) (sessions_of word)
 
 -- a node by its path and its script, and whether `--` is among its words: a script `-` without `--` is no file, but the lines as they
 -- come
@@ -112,7 +143,8 @@ found_by way.Simulate ended rows = Some simulate
 found_by way.Check ended rows = Some check
 found_by way.Audit ended rows = Some audit
 found_by way.Hub ended rows =
-    hub_of (first_of (codes "path") rows) (first_of (codes "sessions") rows) (first_of (codes "journal") rows) (first_of (codes "stop-file") rows)
+    hub_of (first_of (codes "path") rows) (first_of (codes "sessions") rows)
+    (journals_of (first_of (codes "journal") rows) (first_of (codes "journal-octets") rows)) (first_of (codes "stop-file") rows)
 found_by way.TestHub ended rows = test_hub_of (first_of (codes "path") rows)
 found_by way.Node ended rows = node_of ended (first_of (codes "path") rows) (first_of (codes "script") rows)
 found_by way.TestNode ended rows = test_node_of (first_of (codes "path") rows) (first_of (codes "script") rows)
@@ -130,6 +162,14 @@ has_word word words = list_any (λ w. same_octets w word) words
 -- what words ask for as they are read in one way
 abbrev pub asked_as : Way → List Text → Option AskedOf
 asked_as way words = unless (fault_of (app_for way) words) (found_by way (has_word (codes "--") words) (matches_of (app_for way) words))
+
+-- the path at which the status of a hub is kept that is served by some words, where they say one
+abbrev pub unless_refused : Kinds → Option Text → Option Text
+unless_refused [] path = path
+unless_refused (kind ∷ kinds) path = None
+
+abbrev pub status_path_of : List Text → Option Text
+status_path_of words = unless_refused (fault_of (app_for way.Hub) words) (first_of (codes "status-file") (matches_of (app_for way.Hub) words))
 
 -- the way to read words whose first is this
 abbrev pub way_of : Text → Option Way
@@ -186,23 +226,24 @@ abbrev pub listed_alone : AskedOf → List Text → Option AskedOf
 listed_alone asked [] = Some asked
 listed_alone asked (word ∷ words) = None
 
--- `PATH`, and behind it none, one, two or all of `--sessions N`, `--journal PREFIX` and `--stop-file FILE`, in this order
+-- `PATH`, and behind it none, one, two or all of `--sessions N`, `--journal PREFIX` and `--stop-file FILE`, in this order, where the
+-- octets of files aren't limited
 abbrev pub listed_hub : List Text → Option AskedOf
 listed_hub (path ∷ []) = Some (hub path None None None)
 listed_hub (path ∷ option ∷ word ∷ []) =
     if same_octets option (codes "--sessions") then option_map (λ n. hub path (Some n) None None) (sessions_of word)
-    else if same_octets option (codes "--journal") then Some (hub path None (Some word) None)
+    else if same_octets option (codes "--journal") then Some (hub path None (Some (under word)) None)
     else if same_octets option (codes "--stop-file") then Some (hub path None None (Some word)) else None
 listed_hub (path ∷ option ∷ word ∷ next ∷ last ∷ []) =
     if same_octets option (codes "--sessions") && same_octets next (codes "--journal")
-    then option_map (λ n. hub path (Some n) (Some last) None) (sessions_of word)
+    then option_map (λ n. hub path (Some n) (Some (under last)) None) (sessions_of word)
     else if same_octets option (codes "--sessions") && same_octets next (codes "--stop-file")
     then option_map (λ n. hub path (Some n) None (Some last)) (sessions_of word)
-    else if same_octets option (codes "--journal") && same_octets next (codes "--stop-file") then Some (hub path None (Some word) (Some last))
+    else if same_octets option (codes "--journal") && same_octets next (codes "--stop-file") then Some (hub path None (Some (under word)) (Some last))
     else None
 listed_hub (path ∷ option ∷ word ∷ next ∷ prefix ∷ third ∷ file ∷ []) =
     if same_octets option (codes "--sessions") && same_octets next (codes "--journal") && same_octets third (codes "--stop-file")
-    then option_map (λ n. hub path (Some n) (Some prefix) (Some file)) (sessions_of word) else None
+    then option_map (λ n. hub path (Some n) (Some (under prefix)) (Some file)) (sessions_of word) else None
 listed_hub words = None
 
 -- `PATH SCRIPT`, and `PATH -`
@@ -238,20 +279,25 @@ listed_as way.TestNode words = listed_test_node words
 listed_as way.Load words = listed_load words
 
 -- What exactly the lists `replay`, `simulate`, `check`, `audit`, `hub PATH` with none, one, two or all of `--sessions N`,
--- `--journal PREFIX` and `--stop-file FILE` behind it in this order, `hub PATH --test`, `node PATH SCRIPT`, `node PATH -`,
+-- `--journal PREFIX` and `--stop-file FILE` behind it in this order, without `--journal-octets N`, `hub PATH --test`, `node PATH SCRIPT`, `node PATH -`,
 -- `node PATH SCRIPT --test` and `load N` ask for.
 abbrev pub listed : List Text → Option AskedOf
 listed [] = None
 listed (name ∷ words) = first_in (λ way. listed_as way words) (way_of name)
 
--- whether a path or a prefix, if there is one, begins with no hyphen
+-- whether a path, if there is one, begins with no hyphen
 abbrev pub is_plain : Option Text → Bool
 is_plain None = true
 is_plain (Some word) = not (has_hyphen word)
 
+-- the same of the prefix of journals
+abbrev pub is_plain_prefix : Option JournalsOf → Bool
+is_plain_prefix None = true
+is_plain_prefix (Some journals) = not (has_hyphen journals.prefix)
+
 -- whether the paths and the prefix in what is asked for begin with no hyphen
 abbrev pub has_plain_paths : AskedOf → Bool
-has_plain_paths (hub path sessions journal stop_file) = is_plain journal && (is_plain stop_file && not (has_hyphen path))
+has_plain_paths (hub path sessions journal stop_file) = is_plain_prefix journal && (is_plain stop_file && not (has_hyphen path))
 has_plain_paths (node path script) = not (has_hyphen path) && not (has_hyphen script)
 has_plain_paths (live_node path) = not (has_hyphen path)
 has_plain_paths (test_hub path) = not (has_hyphen path)
@@ -260,13 +306,17 @@ has_plain_paths asked = true
 
 -- ---- answers
 
+-- the journals that are said
+abbrev pub said_journals : JournalWords → JournalsOf
+said_journals j = record { prefix = j.prefix.now; limit = j.limit }
+
 -- what an answer asks for
 abbrev pub seen : Asked → AskedOf
 seen Replay = replay
 seen Simulate = simulate
 seen Check = check
 seen Audit = audit
-seen (Hub path sessions journal stop_file) = hub path.now sessions (option_map (λ p. p.now) journal) (option_map (λ p. p.now) stop_file)
+seen (Hub path sessions journal stop_file) = hub path.now sessions (option_map said_journals journal) (option_map (λ p. p.now) stop_file)
 seen (Node path script) = node path.now script.now
 seen (LiveNode path) = live_node path.now
 seen (Load workers) = load workers

@@ -1,5 +1,14 @@
 //! What the words of the program ask for, and the ways to read them.
 
+/// Under what prefix journals are kept, and how long their files may be.
+#[derive(Clone, Copy, Debug, PartialEq, Eq)]
+pub struct JournalWords<'a> {
+    /// The prefix.
+    pub prefix: &'a str,
+    /// To how many octets each file is limited: `LEAST_OCTETS` to `MOST_OCTETS`; None for no limit.
+    pub limit: Option<u64>,
+}
+
 /// What the words of the program ask for.
 #[derive(Clone, Copy, Debug, PartialEq, Eq)]
 pub enum Asked<'a> {
@@ -11,14 +20,15 @@ pub enum Asked<'a> {
     Check,
     /// `audit`: says whether journals tell one legal history of one hub.
     Audit,
-    /// `hub PATH`, with `--sessions N`, `--journal PREFIX` and `--stop-file FILE` where they are there: serves a hub.
+    /// `hub PATH`, with `--sessions N`, `--journal PREFIX`, `--journal-octets N` beside it, and `--stop-file FILE` where they are
+    /// there: serves a hub.
     Hub {
         /// Where the settings are.
         path: &'a str,
         /// How many links are served: 1 to 1,000,000; None for ever.
         sessions: Option<u64>,
-        /// Under what prefix journals are kept, if they are.
-        journal: Option<&'a str>,
+        /// What is said of journals, if they are kept.
+        journal: Option<JournalWords<'a>>,
         /// The path at which a file asks for the stop, if one may.
         stop_file: Option<&'a str>,
     },

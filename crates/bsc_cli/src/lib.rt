@@ -7,14 +7,16 @@
 
 mod arguments;
 mod asked;
+mod beside;
 mod bounds;
 mod fault;
 mod laws;
 mod read;
 mod reading;
 
-pub use asked::Asked;
-pub use bounds::{SESSIONS, WORKERS};
+pub use asked::{Asked, JournalWords};
+pub use beside::status_path;
+pub use bounds::{LEAST_OCTETS, MOST_OCTETS, SESSIONS, WORKERS};
 pub use fault::WordsFault;
 pub use laws::{calls_for_help_are_refused, listed_words_are_taken, plain_words_are_listed};
 pub use read::ReadWords;

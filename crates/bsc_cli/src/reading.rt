@@ -5,11 +5,11 @@ ghost use Rattle.clap.specs.Words.{app_of, fault_of, first_of, found_of, is_simp
 ghost use Rattle.bsc_text.specs.Lines.{same_octets};
 ghost use Rattle.bsc_cli.specs.declared.fault.WordsFault.TheVariants as words_fault;
 ghost use Rattle.bsc_cli.specs.Words.{app_for, asked_as, asked_by, asked_of, found_by, other_way, seen, way_of};
-ghost use Rattle.bsc_cli.specs.Words.{hub_of, load_of, node_of, sessions_of, test_hub_of, test_node_of, workers_of};
+ghost use Rattle.bsc_cli.specs.Words.{hub_of, journals_of, load_of, node_of, octets_of, said_journals, sessions_of, test_hub_of, test_node_of, workers_of};
 
 use crate::arguments::{with_option, with_required, with_required_flag};
-use crate::asked::{Asked, Way};
-use crate::bounds::{SESSIONS, WORKERS};
+use crate::asked::{Asked, JournalWords, Way};
+use crate::bounds::{LEAST_OCTETS, MOST_OCTETS, SESSIONS, WORKERS};
 use crate::fault::WordsFault;
 use bsc_octets::NoMemory;
 use bsc_text::read_number;
@@ -18,7 +18,7 @@ use clap::{ArgMatches, Command};
 use std::alloc::Global;
 
 /// The command of a way to read words, with its arguments.
-fn arguments<'a>(alloc: Global, way: Way) -> Result<Command<'a>, NoMemory>
+pub(crate) fn arguments<'a>(alloc: Global, way: Way) -> Result<Command<'a>, NoMemory>
     ensures { IfOk result (λ c. app_of c ≡ app_for way) }
 {
     match way {
@@ -30,7 +30,9 @@ fn arguments<'a>(alloc: Global, way: Way) -> Result<Command<'a>, NoMemory>
             let hub = with_required(alloc, Command::new(alloc, "hub"), "path")?;
             let hub = with_option(alloc, hub, "sessions")?;
             let hub = with_option(alloc, hub, "journal")?;
-            with_option(alloc, hub, "stop-file")
+            let hub = with_option(alloc, hub, "journal-octets")?;
+            let hub = with_option(alloc, hub, "stop-file")?;
+            with_option(alloc, hub, "status-file")
         }
         Way::TestHub => {
             let hub = with_required(alloc, Command::new(alloc, "hub"), "path")?;
@@ -50,7 +52,10 @@ fn arguments<'a>(alloc: Global, way: Way) -> Result<Command<'a>, NoMemory>
 }
 
 /// What `clap` finds in words as the arguments of a command.
-fn parse<'a>(command: Command<'a>, words: &'a [String]) -> Result<ArgMatches<'a>, WordsFault>
+pub(crate) fn parse<'a>(
+    command: Command<'a>,
+    words: &'a [String],
+) -> Result<ArgMatches<'a>, WordsFault>
     requires { is_simple_and_free (app_of command) ≡ true }
     ensures fine { IfOk result (λ _. fault_of (app_of command.entry) (map string_bytes words.entry.now) ≡ []) }
     ensures found { IfOk result (λ m. rows_of (found_of m) ≡ matches_of (app_of command.entry) (map string_bytes words.entry.now)) }
@@ -93,17 +98,51 @@ fn read_workers(word: &[u8]) -> Option<u32>
     }
 }
 
-/// A hub by its path, what is said of its sessions, the prefix of its journals, and the path of the file that stops it.
+/// The number of octets that a word says, to which files are limited.
+fn read_octets(word: &[u8]) -> Option<u64>
+    ensures { result ≡ octets_of word.now }
+{
+    let number = read_number(word)?;
+    if LEAST_OCTETS <= number && number <= MOST_OCTETS {
+        Some(number)
+    } else {
+        None
+    }
+}
+
+/// Journals by their prefix, and by what is said of the octets of their files.
+fn journals_of<'a>(
+    prefix: Option<&'a str>,
+    octets: Option<&'a str>,
+) -> Option<Option<JournalWords<'a>>>
+    ensures { option_map (λ j. option_map said_journals j) result
+        ≡ journals_of (option_map (λ s. s.now) prefix.entry) (option_map (λ s. s.now) octets.entry) }
+{
+    let Some(prefix) = prefix else {
+        return match octets {
+            Some(_) => None,
+            None => Some(None),
+        };
+    };
+    let limit = match octets {
+        Some(word) => Some(read_octets(word.as_bytes())?),
+        None => None,
+    };
+    Some(Some(JournalWords { prefix, limit }))
+}
+
+/// A hub by its path, what is said of its sessions and of its journals, and the path of the file that stops it.
 fn hub_of<'a>(
     path: Option<&'a str>,
     sessions: Option<&'a str>,
-    journal: Option<&'a str>,
+    journals: Option<Option<JournalWords<'a>>>,
     stop_file: Option<&'a str>,
 ) -> Option<Asked<'a>>
     ensures { option_map seen result ≡ hub_of (option_map (λ s. s.now) path.entry) (option_map (λ s. s.now) sessions.entry)
-        (option_map (λ s. s.now) journal.entry) (option_map (λ s. s.now) stop_file.entry) }
+        (option_map (λ j. option_map said_journals j) journals.entry) (option_map (λ s. s.now) stop_file.entry) }
 {
     let path = path?;
+    let journal = journals?;
     match sessions {
         Some(word) => Some(Asked::Hub {
             path,
@@ -173,7 +212,7 @@ fn test_node_of<'a>(path: Option<&'a str>, script: Option<&'a str>) -> Option<As
 }
 
 /// What an argument has.
-fn value_at<'a>(matches: &ArgMatches<'a>, id: &str) -> Option<&'a str>
+pub(crate) fn value_at<'a>(matches: &ArgMatches<'a>, id: &str) -> Option<&'a str>
     ensures { option_map (λ s. s.now) result ≡ first_of id.now (rows_of (found_of matches.now)) }
 {
     matches.get_str(id)
@@ -191,7 +230,10 @@ fn found_in<'a>(way: Way, ended: bool, matches: &ArgMatches<'a>) -> Option<Asked
         Way::Hub => hub_of(
             value_at(matches, "path"),
             value_at(matches, "sessions"),
-            value_at(matches, "journal"),
+            journals_of(
+                value_at(matches, "journal"),
+                value_at(matches, "journal-octets"),
+            ),
             value_at(matches, "stop-file"),
         ),
         Way::TestHub => test_hub_of(value_at(matches, "path")),
@@ -269,7 +311,8 @@ fn read_by<'a>(alloc: Global, name: &[u8], words: &'a [String]) -> Result<Asked<
 ///
 /// The first word is `replay`, `simulate`, `check`, `audit`, `hub`, `node` or `load`, and the words after it are read by
 /// `clap` as the arguments of that command: `hub` takes a path, `--sessions` with a number from 1 to 1,000,000,
-/// `--journal` with a prefix, and `--stop-file` with a path; `node` a path and the path of a script, or `-` for lines as they
+/// `--journal` with a prefix, beside it `--journal-octets` with a number, `--stop-file` with a path, and `--status-file` with one,
+/// which `status_path` tells; `node` a path and the path of a script, or `-` for lines as they
 /// come; `load` a number from 1 to `WORKERS`; the others take none. Beside its paths `hub` or `node` may have `--test` alone, by
 /// which its settings are tried. A call for help is refused.
 ///

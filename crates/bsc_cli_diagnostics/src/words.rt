@@ -2,11 +2,12 @@
 ghost use Rattle.std.specs.Prelude.{◌≡◌, None, IfOk, IfSome, map, string_bytes};
 ghost use Rattle.bsc_cli.specs.Words.{asked_by};
 
-use bsc_cli::{WordsFault, read_words};
+use bsc_cli::{LEAST_OCTETS, MOST_OCTETS, WordsFault, read_words};
 use bsc_diagnostics::Shown;
 use bsc_octets::NoMemory;
+use bsc_text::read_number;
 use clap::error::ErrorKind;
-use clap::{Arg, ArgAction, Command};
+use clap::{Arg, ArgAction, ArgMatches, Command};
 use std::alloc::Global;
 
 /// A command with its arguments, as `bsc_cli` has them.
@@ -16,13 +17,17 @@ fn command_of<'a>(alloc: Global, name: &'a str) -> Result<Command<'a>, NoMemory>
         let path = Arg::new(alloc, "SETTINGS").required(true);
         let sessions = Arg::new(alloc, "N").long("sessions");
         let journal = Arg::new(alloc, "PREFIX").long("journal");
+        let octets = Arg::new(alloc, "OCTETS").long("journal-octets");
         let stop_file = Arg::new(alloc, "FILE").long("stop-file");
+        let status_file = Arg::new(alloc, "STATUS").long("status-file");
         return Ok(
             command
                 .arg(path)?
                 .arg(sessions)?
                 .arg(journal)?
-                .arg(stop_file)?,
+                .arg(octets)?
+                .arg(stop_file)?
+                .arg(status_file)?,
         );
     }
     if name == "node" {
@@ -123,7 +128,32 @@ fn why_refused(alloc: Global, name: &str, error: &clap::Error) -> Result<String,
     }
 }
 
-/// Why the number of a command is refused, which is all that can be wrong with words that `clap` takes.
+/// Whether a word says how many octets the file of a journal may have.
+fn is_limit(word: &str) -> bool {
+    match read_number(word.as_bytes()) {
+        Some(octets) => LEAST_OCTETS <= octets && octets <= MOST_OCTETS,
+        None => false,
+    }
+}
+
+/// Why the octets of files are refused that the words of a hub say, if they are wrong.
+fn why_octets(alloc: Global, matches: &ArgMatches<'_>) -> Result<Option<String>, NoMemory> {
+    let Some(octets) = matches.get_str("OCTETS") else {
+        return Ok(None);
+    };
+    if matches.get_str("PREFIX").is_none() {
+        let text = format!(in alloc; "`--journal-octets` needs `--journal <PREFIX>` beside it")?;
+        return Ok(Some(text));
+    }
+    if is_limit(octets) {
+        return Ok(None);
+    }
+    let shown = Shown(octets.as_bytes());
+    let text = format!(in alloc; "{shown} is no number of octets from 4096 to 1000000000000")?;
+    Ok(Some(text))
+}
+
+/// Why the number of a command is refused, where its other words are good and `clap` takes them.
 fn why_number(alloc: Global, name: &str, word: Option<&str>) -> Result<String, NoMemory> {
     let shown = Shown(word.unwrap_or("").as_bytes());
     if name == "hub" {
@@ -135,7 +165,14 @@ fn why_number(alloc: Global, name: &str, word: Option<&str>) -> Result<String, N
 /// Why the words of a command are refused.
 fn why_of_command(alloc: Global, name: &str, words: &[String]) -> Result<String, NoMemory> {
     match command_by(alloc, name, words)?.try_get_matches_from(words) {
-        Ok(matches) => why_number(alloc, name, matches.get_str("N")),
+        Ok(matches) => {
+            if name == "hub" {
+                if let Some(why) = why_octets(alloc, &matches)? {
+                    return Ok(why);
+                }
+            }
+            why_number(alloc, name, matches.get_str("N"))
+        }
         Err(error) => why_refused(alloc, name, &error),
     }
 }

@@ -1,5 +1,5 @@
 //! What the program does.
-ghost use Rattle.std.specs.Prelude.{◌≡◌, ◌≢◌, ◌≤◌, ◌⊎◌, ◌++◌, ◌∷◌, [], ℕ, List, Option, None, Some, Ok, false, map};
+ghost use Rattle.std.specs.Prelude.{option_map, ◌≡◌, ◌≢◌, ◌≤◌, ◌⊎◌, ◌++◌, ◌∷◌, [], ℕ, List, Option, None, Some, Ok, false, map};
 ghost use Rattle.clap.specs.Words.{Text};
 ghost use Rattle.bsc_edge.specs.Asked.{GaveFile, ReadsFirstOf};
 ghost use Rattle.bsc_outside.specs.Faults.{HasRisen, PutsPrefix};
@@ -15,7 +15,7 @@ ghost use Rattle.bsc_policy.specs.declared.policy.Policy.{Policy};
 ghost use Rattle.bsc_settings.specs.declared.hub.HubSettings.{HubSettings};
 ghost use Rattle.bsc_session.specs.Jobs.{Worked};
 ghost use Rattle.bsc_serve.specs.Asking.{asking_by};
-ghost use Rattle.bsc_hub_command.specs.Served.{HasFailed, HubRuns, door_by, stock_by, telling, world_by};
+ghost use Rattle.bsc_hub_command.specs.Served.{HasFailed, HubRuns, books_by, door_by, stock_by, telling, world_by};
 ghost use Rattle.bsc_hub_command.specs.Settled.{IsSettled, Unsettled};
 ghost use Rattle.bsc_hub_command.specs.Tested.{TestsHub};
 ghost use Rattle.bsc_commands.specs.Load.Loaded.{RunsLoad};
@@ -30,7 +30,8 @@ ghost use Rattle.bsc_node_run.specs.Worlds.{dialling};
 ghost use Rattle.bsc_node_laws.specs.Courses.{FinishCame};
 ghost use Rattle.bsc_cli.specs.declared.fault.WordsFault.TheVariants as words_fault;
 ghost use Rattle.bsc_cli.specs.Read.{asked_in};
-ghost use Rattle.bsc_cli.specs.Words.{audit, check, hub, live_node, load, node, replay, seen, simulate, test_hub, test_node};
+ghost use Rattle.bsc_cli.specs.Words.{JournalsOf, audit, check, hub, limit_in, live_node, load, node, prefix_in, replay, said_journals, seen, simulate};
+ghost use Rattle.bsc_cli.specs.Words.{test_hub, test_node};
 ghost use Rattle.bsc_commands.specs.Commands.{WritesWhatWasSent};
 ghost use Rattle.bsc_commands.specs.Ends.{CutShort, EndsBy, LeavesAsker, LeavesLines, TouchesOnly};
 
@@ -38,7 +39,7 @@ use crate::load::run_load;
 use crate::outside::Outside;
 use crate::playing::{Command, play};
 use bsc_audit_command::run_audit;
-use bsc_cli::{Asked, ReadWords, WordsFault};
+use bsc_cli::{Asked, JournalWords, ReadWords, WordsFault};
 use bsc_edge::{Acceptor, Clock, Dialer, Files, Journals, Link, Spawner, Waiter};
 use bsc_hub_command::{HubWords, run_hub, test_hub};
 use bsc_input::LiveInput;
@@ -67,6 +68,26 @@ fn end_unasked<K: Sink>(sink: &mut K, fault: WordsFault) -> u8
     }
 }
 
+/// The prefix of journals, where there are some.
+fn prefix_in<'a>(journals: Option<JournalWords<'a>>) -> Option<&'a str>
+    ensures { option_map (λ p. p.now) result ≡ prefix_in (option_map said_journals journals.entry) }
+{
+    match journals {
+        Some(journals) => Some(journals.prefix),
+        None => None,
+    }
+}
+
+/// To how many octets their files are limited, if they are.
+fn limit_in(journals: Option<JournalWords<'_>>) -> Option<u64>
+    ensures { result ≡ limit_in (option_map said_journals journals.entry) }
+{
+    match journals {
+        Some(journals) => journals.limit,
+        None => None,
+    }
+}
+
 /// Runs the program by its words, as they were read, and answers its status: serves a hub, which the asker may stop, runs a node
 /// or a workload, tries settings, or plays or audits the source. The lines are those that a node may be asked by as they come.
 ///
@@ -78,7 +99,7 @@ fn end_unasked<K: Sink>(sink: &mut K, fault: WordsFault) -> u8
 /// | 1 | the words are no command | `fault words` |
 /// | 2 | line n of the input, or of the node's script, is refused | `fault script line n` |
 /// | 3 | a read of the source, of the settings, or of the node's script or lines failed | `fault read` |
-/// | 4 | a write to the sink failed, also one of a last line; a journal of a hub couldn't be begun, or a write into the hub's own failed | none |
+/// | 4 | a write to the sink failed, also one of a last line; a journal of a hub couldn't be begun, or a write into the hub's own failed; lines of journals were lost | none of its own |
 /// | 5 | the settings are refused for this key | `fault settings KEY` |
 /// | 6 | the port can't be bound, or the acceptor failed | `fault link` |
 /// | 7 | memory ran out | `fault memory`, tried once |
@@ -115,23 +136,23 @@ pub fn run<
     requires own { outside.old.place.own ≡ None }
 
     // Of the words of a hub: once it is made, its settings and its policy are those of the file, and this is what became of it and
-    // of its own journal, with journals under the prefix of the words. It was stopped on request only where the asker asked.
-    ensures hub { (path : Text) (sessions : Option ℕ) (journal stop_file : Option Text) (made : _) →
+    // of its own journal, with journals under the prefix of the words, and their files limited as these say. It was stopped on request only where the asker asked.
+    ensures hub { (path : Text) (sessions : Option ℕ) (journal : Option JournalsOf) (stop_file : Option Text) (made : _) →
         asked_in read.now ≡ Some (hub path sessions journal stop_file) → outside.new.place.kept.hub ≡ Some made →
         (v : HubSettings) × (policy : Option Policy) × IsSettled (GaveFile F.holds F.loads outside.old.files outside.new.files path) v policy
         × HubRuns (telling (Worked L.talk L.faults L.notices C.readings N.held N.faults) J.begins L.talk N.held N.faults)
-        (record { settings = v; policy = policy; sessions = sessions; prefix = journal })
+        (record { settings = v; policy = policy; sessions = sessions; prefix = prefix_in journal; limit = limit_in journal })
         outside.new.place
         (world_by (door_by A.left A.came A.waits A.quiets A.bound A.faults) (stock_by P.jobs P.ends P.out P.faults)
-        J.calls J.faults outside.old.parts (K.held outside.old.sink) (asking_by Q.looks Q.asked Q.endings asker.old))
+        (books_by J.calls J.faults J.lost J.limits) outside.old.parts (K.held outside.old.sink) (asking_by Q.looks Q.asked Q.endings asker.old))
         (world_by (door_by A.left A.came A.waits A.quiets A.bound A.faults) (stock_by P.jobs P.ends P.out P.faults)
-        J.calls J.faults outside.new.parts (K.held outside.new.sink) (asking_by Q.looks Q.asked Q.endings asker.new))
+        (books_by J.calls J.faults J.lost J.limits) outside.new.parts (K.held outside.new.sink) (asking_by Q.looks Q.asked Q.endings asker.new))
         result }
-    ensures no_hub { (path : Text) (sessions : Option ℕ) (journal stop_file : Option Text) →
+    ensures no_hub { (path : Text) (sessions : Option ℕ) (journal : Option JournalsOf) (stop_file : Option Text) →
         asked_in read.now ≡ Some (hub path sessions journal stop_file) → outside.new.place.kept.hub ≡ None →
         Unsettled (GaveFile F.holds F.loads outside.old.files outside.new.files path) (F.faults outside.old.files) (F.faults outside.new.files) result
         (K.held outside.old.sink) (K.held outside.new.sink) }
-    ensures no_hub_untouched { (path : Text) (sessions : Option ℕ) (journal stop_file : Option Text) →
+    ensures no_hub_untouched { (path : Text) (sessions : Option ℕ) (journal : Option JournalsOf) (stop_file : Option Text) →
         asked_in read.now ≡ Some (hub path sessions journal stop_file) → outside.new.place.kept.hub ≡ None →
         (outside.new.place ≡ outside.old.place) × (outside.new.parts ≡ outside.old.parts) }
 
@@ -177,7 +198,7 @@ pub fn run<
         EndWasTaken (I.taken lines.new.lines.inbox) × (I.failed lines.new.lines.inbox ≡ false) }
 
     // The files that these words name were read, each once and in their order, up to the first that wasn't good, and no other.
-    ensures hub_read { (path : Text) (sessions : Option ℕ) (journal stop_file : Option Text) → asked_in read.now ≡ Some (hub path sessions journal stop_file) →
+    ensures hub_read { (path : Text) (sessions : Option ℕ) (journal : Option JournalsOf) (stop_file : Option Text) → asked_in read.now ≡ Some (hub path sessions journal stop_file) →
         ReadsFirstOf (F.loads outside.old.files) (F.loads outside.new.files) (path ∷ []) }
     ensures node_read { (path script : Text) → asked_in read.now ≡ Some (node path script) →
         ReadsFirstOf (F.loads outside.old.files) (F.loads outside.new.files) (path ∷ script ∷ []) }
@@ -312,7 +333,8 @@ pub fn run<
                 HubWords {
                     path,
                     sessions,
-                    journal,
+                    journal: prefix_in(journal),
+                    limit: limit_in(journal),
                 },
                 &mut outside.files,
                 &mut outside.place,

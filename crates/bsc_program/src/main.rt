@@ -2,13 +2,14 @@
 //!
 //! All that the program does is `run` of `bsc_commands`, which `running` calls. `main` hands it standard input and output, the
 //! files, the clock, the random octets, the links and the threads of the machine that it is on, and the file that stops a hub, where
-//! the words name one (`stop_file`). Lines that a node is asked by as it runs are read by a thread of their own (`lines`). Where the
+//! the words name one (`stop_file`), which also tells how the hub is doing (`status`). Lines that a node is asked by as it runs are read by a thread of their own (`lines`). Where the
 //! run ends with a fault, `tell` of `bsc_why` says on standard error why, by what was heard of these.
 #![tactic(auto)]
 
 mod lines;
 mod parts;
 mod running;
+mod status;
 mod stop_file;
 mod texts;
 mod threading;
@@ -19,14 +20,16 @@ use bsc_node_command::RandomWords;
 use bsc_node_run::NodeParts;
 use bsc_player::out_of_memory;
 use bsc_serve::ServingParts;
+use bsc_sockets::Numbers;
 use lines::{lines_of, tell_unread};
 use parts::{Rooms, rooms_of, sockets_of};
 use running::{acceptor_of, outside_of, run_outside, sink_of, source_of, spawner_of, tell_why};
+use status::Teller;
 use std::alloc::Global;
 use std::io;
 use std::process::ExitCode;
 use std::sync::Arc;
-use stop_file::{StopFile, stop_path};
+use stop_file::{StopFile, status_path_of, stop_path};
 use texts::texts_of;
 use threading::{Job, SessionThread, thread_of};
 
@@ -49,7 +52,17 @@ fn main(rt: HostRuntime) -> ExitCode {
         return ExitCode::from(out_of_memory(&mut sink));
     };
     let read = ReadWords::of(alloc, texts.words.as_slice());
-    let mut stop_file = StopFile::new(rt, stop_path(&read));
+    let (Ok(numbers), Ok(status_file)) = (
+        Arc::new(alloc, Numbers::new()),
+        status_path_of(alloc, &read),
+    ) else {
+        return ExitCode::from(out_of_memory(&mut sink));
+    };
+    let Ok(of_door) = Arc::try_clone(&numbers) else {
+        return ExitCode::from(out_of_memory(&mut sink));
+    };
+    let teller = Teller::new(rt, alloc, status_file, numbers);
+    let mut stop_file = StopFile::new(rt, stop_path(&read), teller);
     let Ok(rooms) = rooms_of(rt, alloc) else {
         return ExitCode::from(out_of_memory(&mut sink));
     };
@@ -58,7 +71,7 @@ fn main(rt: HostRuntime) -> ExitCode {
         unread,
         places,
     } = rooms;
-    let Ok(sockets) = sockets_of(rt, alloc, kind_of(&read), rt.stderr()) else {
+    let Ok(sockets) = sockets_of(rt, alloc, kind_of(&read), rt.stderr(), of_door) else {
         return ExitCode::from(out_of_memory(&mut sink));
     };
     let (waiter, dialer, door) = sockets;

@@ -2,7 +2,7 @@
 use bsc_edge::{Kind, Places};
 use bsc_octets::NoMemory;
 use bsc_serve::SESSIONS;
-use bsc_sockets::{Listener, RealDialer, RealWaiter, real_dialer};
+use bsc_sockets::{Listener, Numbers, RealDialer, RealWaiter, real_dialer};
 use bsc_why::{DiskNote, KeptFiles, NotedDisk, ToldFiles};
 use std::alloc::Global;
 use std::cell::Cell;
@@ -15,13 +15,14 @@ use std::rc::Rc;
 use std::sync::{Arc, Wait};
 use std::time::Clock;
 
-/// What waits for, makes and takes links of this kind. A log of them is written there, where the environment asks for one. (A struct of
+/// What waits for, makes and takes links of this kind. A log of them is written there, where the environment asks for one, and what the acceptor counts is kept. (A struct of
 /// these would have to repeat what its dialer is.)
 pub(crate) fn sockets_of<H: Clock + Net + RandomSource + Wait + Eprint + Copy + Drop>(
     rt: H,
     alloc: Global,
     kind: Kind,
     stderr: Stderr,
+    numbers: Arc<Numbers>,
 ) -> Result<(RealWaiter<H>, RealDialer<H>, Listener<H>), NoMemory> {
     let Ok(waiter) = RealWaiter::of(rt, alloc, kind) else {
         return Err(NoMemory);
@@ -30,7 +31,9 @@ pub(crate) fn sockets_of<H: Clock + Net + RandomSource + Wait + Eprint + Copy + 
         return Err(NoMemory);
     };
     let dialer = real_dialer(rt, alloc, of_links)?;
-    let door = Listener::new(rt, alloc, kind, of_gate).logged_at(stderr);
+    let door = Listener::new(rt, alloc, kind, of_gate)
+        .logged_at(stderr)
+        .counted_at(numbers);
     Ok((waiter, dialer, door))
 }
 

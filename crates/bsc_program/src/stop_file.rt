@@ -1,12 +1,17 @@
 //! The file that asks for the stop of a hub.
 ghost use Rattle.std.specs.Prelude.{◌≡◌, [], Some};
 
-use bsc_cli::{Asked, ReadWords};
-use bsc_hub::Pass;
+use crate::status::Teller;
+use bsc_cli::{Asked, ReadWords, status_path};
+use bsc_hub::{HubStatus, Pass};
+use bsc_octets::NoMemory;
 use bsc_outside::Sink;
 use bsc_serve::{AskerNotes, StopAsker};
+use std::alloc::Global;
+use std::env::Env;
 use std::fs::{self, Files};
 use std::io::{Eprint, ErrorKind};
+use std::time::Clock;
 
 /// Asks for the stop of a hub once anything stands at a path, and removes it once the hub has ended. Without a path it never
 /// asks.
@@ -14,6 +19,7 @@ use std::io::{Eprint, ErrorKind};
 pub(crate) struct StopFile<'a, H> {
     rt: H,
     path: Option<&'a str>,
+    teller: Teller<'a, H>,
     notes: AskerNotes,
 }
 
@@ -22,6 +28,17 @@ pub(crate) fn stop_path<'a>(read: &ReadWords<'a>) -> Option<&'a str> {
     match read.asked {
         Ok(Asked::Hub { stop_file, .. }) => stop_file,
         Ok(_) | Err(_) => None,
+    }
+}
+
+/// Where the status of the hub of these words is kept, if anywhere.
+pub(crate) fn status_path_of<'a>(
+    alloc: Global,
+    read: &ReadWords<'a>,
+) -> Result<Option<&'a str>, NoMemory> {
+    match read.asked {
+        Ok(Asked::Hub { .. }) => status_path(alloc, read.words),
+        Ok(_) | Err(_) => Ok(None),
     }
 }
 
@@ -41,11 +58,12 @@ fn remove<H: Files + Eprint>(rt: &H, path: &str) -> bool {
 impl<'a, H: Files + Eprint> StopFile<'a, H> {
     /// The file at this path, if one may ask. One that is there already didn't ask this hub: it is removed, and a line on
     /// standard error says so.
-    pub(crate) fn new(rt: H, path: Option<&'a str>) -> StopFile<'a, H>
+    pub(crate) fn new(rt: H, path: Option<&'a str>, teller: Teller<'a, H>) -> StopFile<'a, H>
         ensures path { result.path ≡ path.entry }
         ensures asked { result.notes.asked ≡ 0 }
         ensures looks { result.notes.looks.items ≡ [] }
         ensures endings { result.notes.endings.items ≡ [] }
+        ensures statuses { result.notes.statuses.items ≡ [] }
     {
         if let Some(path) = path {
             if remove(&rt, path) {
@@ -57,17 +75,20 @@ impl<'a, H: Files + Eprint> StopFile<'a, H> {
         StopFile {
             rt,
             path,
+            teller,
             notes: AskerNotes::new(),
         }
     }
 }
 
-impl<H: Files + Eprint> StopAsker for StopFile<'_, H> {
+impl<H: Files + Eprint + Env + Clock> StopAsker for StopFile<'_, H> {
     ghost asked = { λ f. f.notes.asked };
 
     ghost looks = { λ f. Some f.notes.looks.items };
 
     ghost endings = { λ f. Some f.notes.endings.items };
+
+    ghost statuses = { λ f. Some f.notes.statuses.items };
 
     fn asks(&mut self, pass: &Pass) -> bool {
         let answer = match self.path {
@@ -76,6 +97,15 @@ impl<H: Files + Eprint> StopAsker for StopFile<'_, H> {
         };
         self.notes.answered(answer, pass);
         answer
+    }
+
+    fn wants(&mut self, is_last: bool) -> bool {
+        self.teller.is_due(is_last)
+    }
+
+    fn show(&mut self, status: HubStatus) {
+        self.teller.tell(&status);
+        self.notes.shown(status);
     }
 
     fn end<K: Sink>(&mut self, written: &K) {

@@ -159,12 +159,13 @@ fn of_journal(alloc: Global, heard: &Heard<'_>) -> Result<Option<String>, NoMemo
     match heard.read.asked {
         Ok(
             Asked::Hub {
-                journal: Some(prefix),
+                journal: Some(journal),
                 ..
             },
-        ) if heard.has_lost_a_line => Ok(Some(format!(in alloc;
-            "the journal {prefix}.0 can't be written"
-        )?)),
+        ) if heard.has_lost_a_line => {
+            let prefix = journal.prefix;
+            Ok(Some(format!(in alloc; "the journal {prefix}.0 can't be written")?))
+        }
         _ => Ok(None),
     }
 }

@@ -1,5 +1,5 @@
 -- The command `audit`, which takes no words.
--- It serves clauses of functions of `laws` and `reading`.
+-- It serves clauses of functions of `beside`, `laws` and `reading`.
 use Rattle.std.proofs.Common.{[], ◌∷◌, ◌≡◌, None, Some, codes, refl, sym, true≢false}
 use Rattle.clap.proofs.OnLiterals.{clap_on_literals}
 use Rattle.bsc_cli.specs.declared.asked.Way.TheVariants as way

@@ -1,5 +1,5 @@
 -- The command `hub`, without `--test` and with it: what `clap` finds for it, its lists, calls for help, and rows worked by hand.
--- It serves clauses of functions of `laws` and `reading`.
+-- It serves clauses of functions of `beside`, `laws` and `reading`.
 use Rattle.std.proofs.Common.{[], ◌&&◌, ◌∙◌, ◌∷◌, ◌≡◌, Bool, List, None, Option, Some, ap, ap₂, codes, false, is_some, not, option_map, refl, sym, true}
 use Rattle.std.proofs.Common.{true≢false, ℕ}
 use Rattle.std.proofs.lemmas.Bool.{and_parts, not-true}
@@ -10,8 +10,8 @@ use Rattle.clap.specs.Faults.{step_fault, turn_fault}
 use Rattle.clap.specs.Walk.{Held, Walk, arg_by_id, nothing_held, option_word, value, walked}
 use Rattle.clap.specs.Words.{Row, Shape, Text, built, first_of, is_simple_and_free}
 use Rattle.clap.specs.declared.error.kind.ErrorKind.TheVariants.{UnknownArgument}
-use Rattle.bsc_cli.specs.Words.{AskedOf, app_for, asked_as, asked_by, has_hyphen, have_no_hyphen, hub, hub_of, listed_hub, listed_test_hub, sessions_of, test_hub}
-use Rattle.bsc_cli.specs.Words.{test_hub_of}
+use Rattle.bsc_cli.specs.Words.{AskedOf, JournalsOf, app_for, asked_as, asked_by, has_hyphen, have_no_hyphen, hub, hub_of, journals_of, listed_hub, listed_test_hub, sessions_of}
+use Rattle.bsc_cli.specs.Words.{test_hub, test_hub_of, under}
 use Rattle.bsc_cli.specs.declared.asked.Way.TheVariants as way
 use Rattle.bsc_cli.specs.declared.bounds.TheConstants.{SESSIONS}
 use Rattle.bsc_text.specs.Lines.{same_octets}
@@ -34,7 +34,8 @@ hub_shape = (built (app_for way.Hub)).top
 
 abbrev hub_read : List Row → Option AskedOf
 hub_read rows =
-    hub_of (first_of (codes "path") rows) (first_of (codes "sessions") rows) (first_of (codes "journal") rows) (first_of (codes "stop-file") rows)
+    hub_of (first_of (codes "path") rows) (first_of (codes "sessions") rows) (journals_of (first_of (codes "journal") rows) (first_of (codes "journal-octets") rows))
+    (first_of (codes "stop-file") rows)
 
 hub_from : (name : Text) (words : List Text) → asked_as way.Hub (name ∷ words) ≡ asked_from hub_shape hub_read (at nothing_held 1) words
 hub_from name words = refl
@@ -119,12 +120,12 @@ hub_prefixed path prefix =
     let met = option_word (arg_by_id hub_shape.rules (codes "journal")) (codes "journal") prefix held in
     record (awaiting (codes "journal") held 2) { held = met.0; waiting = met.1 }
 
-recorded_end : (path prefix : Text) → asked_from hub_shape hub_read (hub_prefixed path prefix) [] ≡ Some (hub path None (Some prefix) None)
+recorded_end : (path prefix : Text) → asked_from hub_shape hub_read (hub_prefixed path prefix) [] ≡ Some (hub path None (Some (under prefix)) None)
 unfolding clap_on_literals
 recorded_end path prefix = refl
 
 hub_recorded : (name path prefix : Text) → has_hyphen path ≡ false → has_hyphen prefix ≡ false
-    → asked_as way.Hub (name ∷ path ∷ codes "--journal" ∷ prefix ∷ []) ≡ Some (hub path None (Some prefix) None)
+    → asked_as way.Hub (name ∷ path ∷ codes "--journal" ∷ prefix ∷ []) ≡ Some (hub path None (Some (under prefix)) None)
 hub_recorded name path prefix h i =
     let held = (hub_other path).held in
     hub_from name (path ∷ codes "--journal" ∷ prefix ∷ []) ∙ hub_step path (codes "--journal" ∷ prefix ∷ []) h
@@ -152,12 +153,12 @@ hub_fifth path word prefix =
     let met = option_word (arg_by_id hub_shape.rules (codes "journal")) (codes "journal") prefix held in
     record (awaiting (codes "journal") held 2) { held = met.0; waiting = met.1 }
 
-both_end : (path word prefix : Text) → asked_from hub_shape hub_read (hub_fifth path word prefix) [] ≡ option_map (λ n. hub path (Some n) (Some prefix) None) (sessions_of word)
+both_end : (path word prefix : Text) → asked_from hub_shape hub_read (hub_fifth path word prefix) [] ≡ option_map (λ n. hub path (Some n) (Some (under prefix)) None) (sessions_of word)
 unfolding clap_on_literals
 both_end path word prefix = refl
 
 hub_both : (name path word prefix : Text) → has_hyphen path ≡ false → has_hyphen word ≡ false → has_hyphen prefix ≡ false
-    → asked_as way.Hub (name ∷ path ∷ codes "--sessions" ∷ word ∷ codes "--journal" ∷ prefix ∷ []) ≡ option_map (λ n. hub path (Some n) (Some prefix) None) (sessions_of word)
+    → asked_as way.Hub (name ∷ path ∷ codes "--sessions" ∷ word ∷ codes "--journal" ∷ prefix ∷ []) ≡ option_map (λ n. hub path (Some n) (Some (under prefix)) None) (sessions_of word)
 hub_both name path word prefix h i j =
     let held = (hub_second path).held in
     let more = (hub_fourth path word).held in
@@ -247,12 +248,12 @@ recorded_walked : (path prefix : Text) → recorded_stop path prefix ≡ awaitin
 unfolding clap_on_literals
 recorded_walked path prefix = refl
 
-recorded_stop_end : (path prefix file : Text) → asked_from hub_shape hub_read (hub_filed (recorded_stop path prefix).held file) [] ≡ Some (hub path None (Some prefix) (Some file))
+recorded_stop_end : (path prefix file : Text) → asked_from hub_shape hub_read (hub_filed (recorded_stop path prefix).held file) [] ≡ Some (hub path None (Some (under prefix)) (Some file))
 unfolding clap_on_literals
 recorded_stop_end path prefix file = refl
 
 hub_recorded_stopped : (name path prefix file : Text) → has_hyphen path ≡ false → has_hyphen prefix ≡ false → has_hyphen file ≡ false
-    → asked_as way.Hub (name ∷ path ∷ codes "--journal" ∷ prefix ∷ codes "--stop-file" ∷ file ∷ []) ≡ Some (hub path None (Some prefix) (Some file))
+    → asked_as way.Hub (name ∷ path ∷ codes "--journal" ∷ prefix ∷ codes "--stop-file" ∷ file ∷ []) ≡ Some (hub path None (Some (under prefix)) (Some file))
 hub_recorded_stopped name path prefix file h i j =
     let held = (hub_other path).held in
     let more = codes "--stop-file" ∷ file ∷ [] in
@@ -276,13 +277,13 @@ unfolding clap_on_literals
 all_walked path word prefix = refl
 
 all_end : (path word prefix file : Text)
-    → asked_from hub_shape hub_read (hub_filed (all_stop path word prefix).held file) [] ≡ option_map (λ n. hub path (Some n) (Some prefix) (Some file)) (sessions_of word)
+    → asked_from hub_shape hub_read (hub_filed (all_stop path word prefix).held file) [] ≡ option_map (λ n. hub path (Some n) (Some (under prefix)) (Some file)) (sessions_of word)
 unfolding clap_on_literals
 all_end path word prefix file = refl
 
 hub_all : (name path word prefix file : Text) → has_hyphen path ≡ false → has_hyphen word ≡ false → has_hyphen prefix ≡ false → has_hyphen file ≡ false
     → asked_as way.Hub (name ∷ path ∷ codes "--sessions" ∷ word ∷ codes "--journal" ∷ prefix ∷ codes "--stop-file" ∷ file ∷ [])
-    ≡ option_map (λ n. hub path (Some n) (Some prefix) (Some file)) (sessions_of word)
+    ≡ option_map (λ n. hub path (Some n) (Some (under prefix)) (Some file)) (sessions_of word)
 hub_all name path word prefix file h i j k =
     let held = (hub_fourth path word).held in
     let last = codes "--stop-file" ∷ file ∷ [] in
@@ -378,7 +379,7 @@ hub_plain name (path ∷ next ∷ word ∷ []) h =
     let i : has_hyphen next ≡ false = first_plain next (word ∷ []) (rest_plain path (next ∷ word ∷ []) h) in
     hub_more name path next (word ∷ []) (first_plain path (next ∷ word ∷ []) h) i
     ∙ none_taken (same_octets next (codes "--sessions")) (same_octets next (codes "--journal")) (same_octets next (codes "--stop-file"))
-    (option_map (λ n. hub path (Some n) None None) (sessions_of word)) (Some (hub path None (Some word) None)) (Some (hub path None None (Some word)))
+    (option_map (λ n. hub path (Some n) None None) (sessions_of word)) (Some (hub path None (Some (under word)) None)) (Some (hub path None None (Some word)))
     (no_option next i) (no_prefix next i) (no_file next i)
 hub_plain name (path ∷ next ∷ word ∷ more ∷ []) h =
     hub_more name path next (word ∷ more ∷ []) (first_plain path (next ∷ word ∷ more ∷ []) h)
@@ -388,7 +389,7 @@ hub_plain name (path ∷ next ∷ word ∷ more ∷ last ∷ []) h =
     hub_more name path next (word ∷ more ∷ last ∷ []) (first_plain path (next ∷ word ∷ more ∷ last ∷ []) h) i
     ∙ none_taken (same_octets next (codes "--sessions") && same_octets more (codes "--journal")) (same_octets next (codes "--sessions") && same_octets more (codes "--stop-file"))
     (same_octets next (codes "--journal") && same_octets more (codes "--stop-file"))
-    (option_map (λ n. hub path (Some n) (Some last) None) (sessions_of word)) (option_map (λ n. hub path (Some n) None (Some last)) (sessions_of word)) (Some (hub path None (Some word) (Some last)))
+    (option_map (λ n. hub path (Some n) (Some (under last)) None) (sessions_of word)) (option_map (λ n. hub path (Some n) None (Some last)) (sessions_of word)) (Some (hub path None (Some (under word)) (Some last)))
     (and_not (same_octets next (codes "--sessions")) (same_octets more (codes "--journal")) (no_option next i))
     (and_not (same_octets next (codes "--sessions")) (same_octets more (codes "--stop-file")) (no_option next i))
     (and_not (same_octets next (codes "--journal")) (same_octets more (codes "--stop-file")) (no_prefix next i))
@@ -399,7 +400,7 @@ hub_plain name (path ∷ next ∷ word ∷ more ∷ prefix ∷ third ∷ file �
     let i : has_hyphen next ≡ false = first_plain next (word ∷ more ∷ prefix ∷ third ∷ file ∷ []) (rest_plain path (next ∷ word ∷ more ∷ prefix ∷ third ∷ file ∷ []) h) in
     let other : same_octets next (codes "--sessions") ≡ false = no_option next i in
     hub_more name path next (word ∷ more ∷ prefix ∷ third ∷ file ∷ []) (first_plain path (next ∷ word ∷ more ∷ prefix ∷ third ∷ file ∷ []) h) i
-    ∙ sym (ap (λ b. if b && same_octets more (codes "--journal") && same_octets third (codes "--stop-file") then option_map (λ n. hub path (Some n) (Some prefix) (Some file))
+    ∙ sym (ap (λ b. if b && same_octets more (codes "--journal") && same_octets third (codes "--stop-file") then option_map (λ n. hub path (Some n) (Some (under prefix)) (Some file))
     (sessions_of word) else None) other)
 hub_plain name (path ∷ next ∷ word ∷ more ∷ prefix ∷ third ∷ file ∷ last ∷ words) h =
     hub_more name path next (word ∷ more ∷ prefix ∷ third ∷ file ∷ last ∷ words) (first_plain path (next ∷ word ∷ more ∷ prefix ∷ third ∷ file ∷ last ∷ words) h)
@@ -432,7 +433,7 @@ three_plain path prefix file h =
 abbrev one_of : Text → Text → Bool → Bool → Bool → Option AskedOf
 one_of path word b d e =
     if b then option_map (λ n. hub path (Some n) None None) (sessions_of word)
-    else if d then Some (hub path None (Some word) None) else if e then Some (hub path None None (Some word)) else None
+    else if d then Some (hub path None (Some (under word)) None) else if e then Some (hub path None None (Some word)) else None
 
 hub_option : (name path option word : Text) (b d e : Bool) → same_octets option (codes "--sessions") ≡ b → same_octets option (codes "--journal") ≡ d
     → same_octets option (codes "--stop-file") ≡ e → is_some (one_of path word b d e) ≡ true → plain_in (one_of path word b d e) ≡ true
@@ -454,9 +455,9 @@ hub_option name path option word true d e a f g s h =
 
 abbrev two_of : Text → Text → Text → Bool → Bool → Bool → Option AskedOf
 two_of path word last b d e =
-    if b then option_map (λ n. hub path (Some n) (Some last) None) (sessions_of word)
+    if b then option_map (λ n. hub path (Some n) (Some (under last)) None) (sessions_of word)
     else if d then option_map (λ n. hub path (Some n) None (Some last)) (sessions_of word)
-    else if e then Some (hub path None (Some word) (Some last)) else None
+    else if e then Some (hub path None (Some (under word)) (Some last)) else None
 
 hub_options : (name path option word next last : Text) (b d e : Bool) → (same_octets option (codes "--sessions") && same_octets next (codes "--journal")) ≡ b
     → (same_octets option (codes "--sessions") && same_octets next (codes "--stop-file")) ≡ d → (same_octets option (codes "--journal") && same_octets next (codes "--stop-file")) ≡ e
@@ -481,13 +482,13 @@ hub_options name path option word next last true d e a f g s h =
     let are = and_parts (same_octets option (codes "--sessions")) (same_octets next (codes "--journal")) a in
     let is : option ≡ codes "--sessions" = (bytes_decides option (codes "--sessions")).0 are.0 in
     let is_next : next ≡ codes "--journal" = (bytes_decides next (codes "--journal")).0 are.1 in
-    let each = mapped (λ n. hub path (Some n) (Some last) None) ((has_hyphen path ≡ false) × (has_hyphen last ≡ false)) (sessions_of word) (λ n k. both_plain path last k) s h in
+    let each = mapped (λ n. hub path (Some n) (Some (under last)) None) ((has_hyphen path ≡ false) × (has_hyphen last ≡ false)) (sessions_of word) (λ n k. both_plain path last k) s h in
     ap₂ (λ o q. asked_as way.Hub (name ∷ path ∷ o ∷ word ∷ q ∷ last ∷ [])) is is_next
     ∙ hub_both name path word last each.0
-    (number_plain word SESSIONS (sym (some_mapped (λ n. hub path (Some n) (Some last) None) (sessions_of word)) ∙ s)) each.1
+    (number_plain word SESSIONS (sym (some_mapped (λ n. hub path (Some n) (Some (under last)) None) (sessions_of word)) ∙ s)) each.1
 
 abbrev three_of : Text → Text → Text → Text → Bool → Option AskedOf
-three_of path word prefix file b = if b then option_map (λ n. hub path (Some n) (Some prefix) (Some file)) (sessions_of word) else None
+three_of path word prefix file b = if b then option_map (λ n. hub path (Some n) (Some (under prefix)) (Some file)) (sessions_of word) else None
 
 hub_options_all : (name path option word next prefix third file : Text) (b : Bool)
     → (same_octets option (codes "--sessions") && same_octets next (codes "--journal") && same_octets third (codes "--stop-file")) ≡ b
@@ -500,12 +501,12 @@ hub_options_all name path option word next prefix third file true e s h =
     let is : option ≡ codes "--sessions" = (bytes_decides option (codes "--sessions")).0 first.0 in
     let is_next : next ≡ codes "--journal" = (bytes_decides next (codes "--journal")).0 first.1 in
     let is_third : third ≡ codes "--stop-file" = (bytes_decides third (codes "--stop-file")).0 are.1 in
-    let each = mapped (λ n. hub path (Some n) (Some prefix) (Some file)) ((has_hyphen path ≡ false) × (has_hyphen prefix ≡ false) × (has_hyphen file ≡ false)) (sessions_of word)
+    let each = mapped (λ n. hub path (Some n) (Some (under prefix)) (Some file)) ((has_hyphen path ≡ false) × (has_hyphen prefix ≡ false) × (has_hyphen file ≡ false)) (sessions_of word)
     (λ n k. three_plain path prefix file k) s h in
     ap₂ (λ o q. asked_as way.Hub (name ∷ path ∷ o ∷ word ∷ q ∷ prefix ∷ third ∷ file ∷ [])) is is_next
     ∙ ap (λ o. asked_as way.Hub (name ∷ path ∷ codes "--sessions" ∷ word ∷ codes "--journal" ∷ prefix ∷ o ∷ file ∷ [])) is_third
     ∙ hub_all name path word prefix file each.0
-    (number_plain word SESSIONS (sym (some_mapped (λ n. hub path (Some n) (Some prefix) (Some file)) (sessions_of word)) ∙ s)) each.1 each.2
+    (number_plain word SESSIONS (sym (some_mapped (λ n. hub path (Some n) (Some (under prefix)) (Some file)) (sessions_of word)) ∙ s)) each.1 each.2
 
 hub_good : (name : Text) (words : List Text) → is_some (listed_hub words) ≡ true → plain_in (listed_hub words) ≡ true
     → asked_as way.Hub (name ∷ words) ≡ listed_hub words
@@ -557,14 +558,15 @@ short_test_hub name words = refl
 
 -- ---- workers, of which a hub has none
 
-fits_sessions : (path : Text) (n : Option ℕ) (journal stop_file : Option Text) → Fits (option_map (λ n. hub path (Some n) journal stop_file) n)
+fits_sessions : (path : Text) (n : Option ℕ) (journal : Option JournalsOf) (stop_file : Option Text) → Fits (option_map (λ n. hub path (Some n) journal stop_file) n)
 fits_sessions path None journal stop_file = tt
 fits_sessions path (Some n) journal stop_file = tt
 
-fits_hub : (path sessions journal stop_file : Option Text) → Fits (hub_of path sessions journal stop_file)
-fits_hub None sessions journal stop_file = tt
-fits_hub (Some path) None journal stop_file = tt
-fits_hub (Some path) (Some word) journal stop_file = fits_sessions path (sessions_of word) journal stop_file
+fits_hub : (path sessions : Option Text) (journals : Option (Option JournalsOf)) (stop_file : Option Text) → Fits (hub_of path sessions journals stop_file)
+fits_hub None sessions journals stop_file = tt
+fits_hub (Some path) sessions None stop_file = tt
+fits_hub (Some path) None (Some journals) stop_file = tt
+fits_hub (Some path) (Some word) (Some journals) stop_file = fits_sessions path (sessions_of word) journals stop_file
 
 fits_test_hub : (path : Option Text) → Fits (test_hub_of path)
 fits_test_hub None = tt
@@ -580,7 +582,8 @@ hub_reads = record {
   apart = λ name words s h. (test_hub_asks name words s h).0;
   long_help = long_hub;
   short_help = short_hub;
-  fits = λ ended rows. fits_hub (first_of (codes "path") rows) (first_of (codes "sessions") rows) (first_of (codes "journal") rows) (first_of (codes "stop-file") rows);
+  fits = λ ended rows. fits_hub (first_of (codes "path") rows) (first_of (codes "sessions") rows)
+      (journals_of (first_of (codes "journal") rows) (first_of (codes "journal-octets") rows)) (first_of (codes "stop-file") rows);
 }
 
 pub test_hub_reads : Reads way.TestHub
@@ -636,13 +639,13 @@ serves_twice : asked_by (codes "hub" ∷ codes "a" ∷ codes "--sessions" ∷ co
 unfolding clap_on_literals
 serves_twice = refl
 
-serves_with_journals : asked_by (codes "hub" ∷ codes "a" ∷ codes "--journal" ∷ codes "j" ∷ []) ≡ Some (hub (codes "a") None (Some (codes "j")) None)
+serves_with_journals : asked_by (codes "hub" ∷ codes "a" ∷ codes "--journal" ∷ codes "j" ∷ []) ≡ Some (hub (codes "a") None (Some (under (codes "j"))) None)
 unfolding clap_on_literals
 serves_with_journals = refl
 
 serves_three_with_journals :
     asked_by (codes "hub" ∷ codes "--journal" ∷ codes "j" ∷ codes "a" ∷ codes "--sessions" ∷ codes "3" ∷ [])
-    ≡ Some (hub (codes "a") (Some 3) (Some (codes "j")) None)
+    ≡ Some (hub (codes "a") (Some 3) (Some (under (codes "j"))) None)
 unfolding clap_on_literals
 serves_three_with_journals = refl
 
@@ -660,7 +663,7 @@ serves_until_asked = refl
 
 serves_with_all :
     asked_by (codes "hub" ∷ codes "--stop-file=s" ∷ codes "--journal" ∷ codes "j" ∷ codes "a" ∷ codes "--sessions" ∷ codes "3" ∷ [])
-    ≡ Some (hub (codes "a") (Some 3) (Some (codes "j")) (Some (codes "s")))
+    ≡ Some (hub (codes "a") (Some 3) (Some (under (codes "j"))) (Some (codes "s")))
 unfolding clap_on_literals
 serves_with_all = refl
 
@@ -671,6 +674,46 @@ serves_without_a_stop_file = refl
 serves_with_two_stop_files : asked_by (codes "hub" ∷ codes "a" ∷ codes "--stop-file" ∷ codes "s" ∷ codes "--stop-file" ∷ codes "t" ∷ []) ≡ None
 unfolding clap_on_literals
 serves_with_two_stop_files = refl
+
+limits_journals : asked_by (codes "hub" ∷ codes "a" ∷ codes "--journal" ∷ codes "j" ∷ codes "--journal-octets" ∷ codes "4096" ∷ [])
+    ≡ Some (hub (codes "a") None (Some (record { prefix = codes "j"; limit = Some 4096 })) None)
+unfolding clap_on_literals
+limits_journals = refl
+
+limits_journals_at_first : asked_by (codes "hub" ∷ codes "--journal-octets=1000000000000" ∷ codes "--journal=j" ∷ codes "a" ∷ [])
+    ≡ Some (hub (codes "a") None (Some (record { prefix = codes "j"; limit = Some 1000000000000 })) None)
+unfolding clap_on_literals
+limits_journals_at_first = refl
+
+limits_journals_and_serves_three : asked_by (codes "hub" ∷ codes "a" ∷ codes "--sessions" ∷ codes "3" ∷ codes "--journal" ∷ codes "j" ∷ codes "--journal-octets" ∷ codes "4096" ∷ codes "--stop-file" ∷ codes "s" ∷ [])
+    ≡ Some (hub (codes "a") (Some 3) (Some (record { prefix = codes "j"; limit = Some 4096 })) (Some (codes "s")))
+unfolding clap_on_literals
+limits_journals_and_serves_three = refl
+
+limits_journals_too_much : asked_by (codes "hub" ∷ codes "a" ∷ codes "--journal" ∷ codes "j" ∷ codes "--journal-octets" ∷ codes "4095" ∷ [])
+    ≡ None
+unfolding clap_on_literals
+limits_journals_too_much = refl
+
+limits_journals_too_little : asked_by (codes "hub" ∷ codes "a" ∷ codes "--journal" ∷ codes "j" ∷ codes "--journal-octets" ∷ codes "1000000000001" ∷ [])
+    ≡ None
+unfolding clap_on_literals
+limits_journals_too_little = refl
+
+limits_journals_by_no_number : asked_by (codes "hub" ∷ codes "a" ∷ codes "--journal" ∷ codes "j" ∷ codes "--journal-octets" ∷ codes "4k" ∷ [])
+    ≡ None
+unfolding clap_on_literals
+limits_journals_by_no_number = refl
+
+limits_no_journals : asked_by (codes "hub" ∷ codes "a" ∷ codes "--journal-octets" ∷ codes "4096" ∷ [])
+    ≡ None
+unfolding clap_on_literals
+limits_no_journals = refl
+
+limits_journals_twice : asked_by (codes "hub" ∷ codes "a" ∷ codes "--journal" ∷ codes "j" ∷ codes "--journal-octets" ∷ codes "4096" ∷ codes "--journal-octets" ∷ codes "4096" ∷ [])
+    ≡ None
+unfolding clap_on_literals
+limits_journals_twice = refl
 
 hyphen : asked_by (codes "hub" ∷ codes "-" ∷ []) ≡ Some (hub (codes "-") None None None)
 unfolding clap_on_literals

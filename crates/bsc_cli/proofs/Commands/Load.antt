@@ -1,5 +1,5 @@
 -- The command `load`: what `clap` finds for it, its list, calls for help, and rows worked by hand.
--- It serves clauses of functions of `laws` and `reading`.
+-- It serves clauses of functions of `beside`, `laws` and `reading`.
 use Rattle.std.proofs.Common.{[], ◌&&◌, ◌∙◌, ◌∷◌, ◌≡◌, ◌≤◌, Bool, List, None, Option, Some, codes, false, is_some, nat_le, option_map, refl, sym, true, true≢false, ℕ}
 use Rattle.std.proofs.lemmas.Bool.{and_parts, leb-true}
 use Rattle.std.specs.Prelude.{if◌then◌else◌}

@@ -1,5 +1,5 @@
 -- The command `node`, without `--test` and with it: what `clap` finds for it, its lists, calls for help, and rows worked by hand.
--- It serves clauses of functions of `laws` and `reading`.
+-- It serves clauses of functions of `beside`, `laws` and `reading`.
 use Rattle.std.proofs.Common.{[], ◌&&◌, ◌||◌, ◌∙◌, ◌∷◌, ◌≡◌, Bool, List, None, Option, Some, ap, ap₂, codes, false, is_some, not, refl, sym, true}
 use Rattle.std.proofs.Common.{true≢false}
 use Rattle.std.proofs.lemmas.Bool.{and_parts, not-true}

@@ -23,18 +23,18 @@ use Rattle.bsc_node_command.specs.Lives.{LiveWorld, RunsLive}
 use Rattle.bsc_node_command.specs.Tested.{TestWorld, TestsNode}
 use Rattle.bsc_cli.specs.declared.fault.WordsFault.TheVariants.{Refused}
 use Rattle.bsc_cli.specs.Read.{asked_in}
-use Rattle.bsc_cli.specs.Words.{AskedOf, audit, check, hub, live_node, load, node, replay, seen, simulate, test_hub, test_node}
+use Rattle.bsc_cli.specs.Words.{AskedOf, JournalsOf, audit, check, hub, limit_in, live_node, load, node, prefix_in, replay, said_journals, seen, simulate, test_hub, test_node}
 use Rattle.bsc_cli.proofs.Commands.{workers_fit}
 use Rattle.bsc_commands.proofs.Reading.{is_asked, is_read, ran_out, unaudited, unaudited_of_reads, unread, unread_of_reads}
 use Rattle.bsc_commands.proofs.Sending.{reads_write_what_was_sent, writes_what_was_sent}
 use Rattle.bsc_commands.proofs.running.run.Goals as goal
 
 -- What holds of the words of a hub or of a node holds of words that ask for the same.
-abbrev OfHub : (Text → Option ℕ → Option Text → Option Text → Type 0) → AskedOf → Type 0
+abbrev OfHub : (Text → Option ℕ → Option JournalsOf → Option Text → Type 0) → AskedOf → Type 0
 OfHub P (hub path sessions journal stop_file) = P path sessions journal stop_file
 OfHub P asked = ⊤
 
-of_hub : (P : Text → Option ℕ → Option Text → Option Text → Type 0) (a p : Text) (b n : Option ℕ) (i j k l : Option Text) → hub a b i k ≡ hub p n j l → P a b i k → P p n j l
+of_hub : (P : Text → Option ℕ → Option JournalsOf → Option Text → Type 0) (a p : Text) (b n : Option ℕ) (i j : Option JournalsOf) (k l : Option Text) → hub a b i k ≡ hub p n j l → P a b i k → P p n j l
 of_hub P a p b n i j k l same h = subst (OfHub P) same h
 
 abbrev OfNode : (Text → Text → Type 0) → AskedOf → Type 0
@@ -94,6 +94,8 @@ returns-in-Hub-clause-hub g c path sessions journal stop_file made named kept =
       unstarted = P.faults c.args.outside.now.parts.spawner;
       begun = g.J.Journals.calls c.args.outside.now.parts.journals;
       unbegun = g.J.Journals.faults c.args.outside.now.parts.journals;
+      lost = g.J.Journals.lost c.args.outside.now.parts.journals;
+      limits = g.J.Journals.limits c.args.outside.now.parts.journals;
       written = g.K.Sink.held c.args.outside.now.sink;
       asking = asking_by Q.looks Q.asked Q.endings c.args.asker.now;
     } in
@@ -110,15 +112,24 @@ returns-in-Hub-clause-hub g c path sessions journal stop_file made named kept =
       unstarted = P.faults c.run_hub.new.parts.spawner;
       begun = g.J.Journals.calls c.run_hub.new.parts.journals;
       unbegun = g.J.Journals.faults c.run_hub.new.parts.journals;
+      lost = g.J.Journals.lost c.run_hub.new.parts.journals;
+      limits = g.J.Journals.limits c.run_hub.new.parts.journals;
       written = g.K.Sink.held c.run_hub.new.sink;
       asking = asking_by Q.looks Q.asked Q.endings c.run_hub.new.asker;
     } in
-    of_hub (λ (p : Text) (n : Option ℕ) (j f : Option Text). (v : HubSettings) × (policy : Option Policy)
+    let Runs : Option Text → Option ℕ → Type 0 =
+    λ (x : Option Text) (l : Option ℕ). (v : HubSettings) × (policy : Option Policy)
+    × IsSettled (GaveFile g.F.Files.holds g.F.Files.loads c.args.outside.now.files c.run_hub.new.files c.in-Hub.path.now) v policy
+    × HubRuns (telling (Worked g.L.Link.talk g.L.Link.faults g.L.Link.notices g.C.Clock.readings g.N.Sink.held g.N.Sink.faults) g.J.Journals.begins g.L.Link.talk g.N.Sink.held g.N.Sink.faults)
+    (record { settings = v; policy = policy; sessions = c.in-Hub.sessions; prefix = x; limit = l }) c.run_hub.new.place before after c.run_hub.result in
+    of_hub (λ (p : Text) (n : Option ℕ) (j : Option JournalsOf) (f : Option Text). (v : HubSettings) × (policy : Option Policy)
     × IsSettled (GaveFile g.F.Files.holds g.F.Files.loads c.args.outside.now.files c.run_hub.new.files p) v policy
     × HubRuns (telling (Worked g.L.Link.talk g.L.Link.faults g.L.Link.notices g.C.Clock.readings g.N.Sink.held g.N.Sink.faults) g.J.Journals.begins g.L.Link.talk g.N.Sink.held g.N.Sink.faults)
-    (record { settings = v; policy = policy; sessions = n; prefix = j }) c.run_hub.new.place before after c.run_hub.result)
-    c.in-Hub.path.now path c.in-Hub.sessions sessions (option_map (λ q. q.now) c.in-Hub.journal) journal (option_map (λ q. q.now) c.in-Hub.stop_file) stop_file
-    (sym (ap seen c.in-Hub.is) ∙ same) (c.run_hub.ensures.runs made kept)
+    (record { settings = v; policy = policy; sessions = n; prefix = prefix_in j; limit = limit_in j }) c.run_hub.new.place before after c.run_hub.result)
+    c.in-Hub.path.now path c.in-Hub.sessions sessions (option_map said_journals c.in-Hub.journal) journal (option_map (λ q. q.now) c.in-Hub.stop_file) stop_file
+    (sym (ap seen c.in-Hub.is) ∙ same)
+    (subst (λ (l : Option ℕ). Runs (prefix_in (option_map said_journals c.in-Hub.journal)) l) c.limit_in.ensures
+    (subst (λ (x : Option Text). Runs x c.limit_in.result) c.prefix_in.ensures (c.run_hub.ensures.runs made kept)))
 
 pub returns-in-Hub-clause-no_hub : goal.returns-in-Hub-clause-no_hub
 returns-in-Hub-clause-no_hub g c path sessions journal stop_file named none =
@@ -126,10 +137,10 @@ returns-in-Hub-clause-no_hub g c path sessions journal stop_file named none =
     let same = is_asked (asked_in read) read.asked c.in-Ok.asked (hub path sessions journal stop_file) c.in-Ok.is read.ok named in
     let F = g.F.Files in
     let K = g.K.Sink in
-    of_hub (λ (p : Text) (n : Option ℕ) (j f : Option Text). Unsettled (GaveFile F.holds F.loads c.args.outside.now.files c.run_hub.new.files p) (F.faults c.args.outside.now.files)
+    of_hub (λ (p : Text) (n : Option ℕ) (j : Option JournalsOf) (f : Option Text). Unsettled (GaveFile F.holds F.loads c.args.outside.now.files c.run_hub.new.files p) (F.faults c.args.outside.now.files)
     (F.faults c.run_hub.new.files)
     c.run_hub.result (K.held c.args.outside.now.sink) (K.held c.run_hub.new.sink))
-    c.in-Hub.path.now path c.in-Hub.sessions sessions (option_map (λ q. q.now) c.in-Hub.journal) journal (option_map (λ q. q.now) c.in-Hub.stop_file) stop_file
+    c.in-Hub.path.now path c.in-Hub.sessions sessions (option_map said_journals c.in-Hub.journal) journal (option_map (λ q. q.now) c.in-Hub.stop_file) stop_file
     (sym (ap seen c.in-Hub.is) ∙ same) (c.run_hub.ensures.unmade none)
 
 pub returns-in-Node-clause-node : goal.returns-in-Node-clause-node
@@ -256,8 +267,8 @@ returns-in-Hub-clause-hub_read g c path sessions journal stop_file named =
     let read = c.args.read.now in
     let same = is_asked (asked_in read) read.asked c.in-Ok.asked (hub path sessions journal stop_file) c.in-Ok.is read.ok named in
     let loads = g.F.Files.loads in
-    of_hub (λ (p : Text) (n : Option ℕ) (j f : Option Text). ReadsFirstOf (loads c.args.outside.now.files) (loads c.run_hub.new.files) (p ∷ []))
-    c.in-Hub.path.now path c.in-Hub.sessions sessions (option_map (λ q. q.now) c.in-Hub.journal) journal (option_map (λ q. q.now) c.in-Hub.stop_file) stop_file (sym (ap seen c.in-Hub.is) ∙ same)
+    of_hub (λ (p : Text) (n : Option ℕ) (j : Option JournalsOf) (f : Option Text). ReadsFirstOf (loads c.args.outside.now.files) (loads c.run_hub.new.files) (p ∷ []))
+    c.in-Hub.path.now path c.in-Hub.sessions sessions (option_map said_journals c.in-Hub.journal) journal (option_map (λ q. q.now) c.in-Hub.stop_file) stop_file (sym (ap seen c.in-Hub.is) ∙ same)
     (reads_one (loads c.args.outside.now.files) (loads c.run_hub.new.files) c.in-Hub.path.now [] c.run_hub.ensures.once)
 
 pub returns-in-Node-clause-node_read : goal.returns-in-Node-clause-node_read
