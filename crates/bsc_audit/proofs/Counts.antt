@@ -1,5 +1,5 @@
 -- How many lines are hub lines, and which places entries have, whatever their order.
--- It serves the clauses of `audit_explained`.
+-- It serves clauses of functions of `auditing` and `files`.
 use Rattle.std.proofs.Common.{◌≡◌, ℕ, ◌+◌, ◌==◌, Bool, true, false, not, cond, ◌&&◌, List, [], ◌∷◌, ◌++◌, length, filter, Option, refl, ap, sym, ◌∙◌, arith, zero-add}
 use Rattle.std.specs.List.{count_by, range_with_len}
 use Rattle.std.proofs.lemmas.Bool.{and_left, false_from_ne_true}

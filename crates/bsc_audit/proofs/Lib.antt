@@ -15,4 +15,6 @@ pub mod OneHistory
 pub mod Believed
 pub mod Explained
 mod WorkedJournals
+mod WorkedFiles
 pub mod PlaceFacts
+pub mod FileFacts

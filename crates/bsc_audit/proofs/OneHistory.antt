@@ -1,5 +1,5 @@
 -- Octets tell one history of one hub.
--- It serves the clauses of `audit_explained`.
+-- It serves the clauses of `audit_explained` and `audit_files`.
 use Rattle.std.proofs.Common.{◌≡◌, ℕ, suc, ◌+◌, List, [], ◌∷◌, ◌++◌, length, drop, filter, refl, ap, sym, ◌∙◌, subst, arith, append_assoc}
 use Rattle.std.specs.List.{AllByRecursion}
 use Rattle.std.proofs.lemmas.List.{drop_at, length_push}

@@ -1,5 +1,5 @@
 -- One more piece at the end, and what it says.
--- It serves clauses of functions of `auditing`, `hearing`, `judging` and `taking`.
+-- It serves clauses of most source files here.
 use Rattle.std.proofs.Common.{◌≡◌, ℕ, ◌+◌, List, [], ◌∷◌, ◌++◌, length, flat_map, Option, Some, refl, ap, ◌∙◌, subst, arith, length-append, append-nil}
 use Rattle.std.specs.List.{last_or}
 use Rattle.bsc_history.specs.declared.limits.About.{About}

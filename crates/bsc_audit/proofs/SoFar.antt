@@ -1,5 +1,5 @@
 -- What was heard so far, with one more piece, and where more was read.
--- It serves clauses of functions of `auditing`, `hearing`, `judging` and `taking`.
+-- It serves clauses of most source files here.
 use Rattle.std.proofs.Common.{◌≡◌, ℕ, ◌+◌, ◌<◌, ◌≤◌, true, List, [], ◌∷◌, ◌++◌, length, take, drop, map, Option, None, OnOk, Result, Ok, Err, refl, ap, sym, ◌∙◌, subst, arith}
 use Rattle.std.proofs.Common.{append_assoc, append-nil, length-append, length-drop, take_all}
 use Rattle.std.specs.List.{last_or}

@@ -1,5 +1,5 @@
 -- The lines of what was said are hub lines, lines of entries, and what is passed over.
--- It serves the clauses of `audit_explained` and `judge`.
+-- It serves clauses of functions of `auditing`, `files` and `judging`.
 use Rattle.std.proofs.Common.{◌≡◌, ℕ, ◌+◌, Bool, true, false, not, cond, List, [], ◌∷◌, ◌++◌, length, drop, suc, filter, map, Some, None, refl, ap, sym, ◌∙◌, subst, arith}
 use Rattle.std.specs.List.{AllByRecursion, count_by, last_or}
 use Rattle.std.specs.List.Sorted.{IsPermutation}

@@ -1,5 +1,5 @@
 -- Where a line stands within the octets that were read.
--- It serves clauses of functions of `auditing`, `hearing`, `judging` and `taking`.
+-- It serves clauses of most source files here.
 use Rattle.std.proofs.Common.{◌≡◌, ℕ, ◌+◌, ◌≤◌, List, [], ◌∷◌, ◌++◌, length, take, drop, map, refl, ap, sym, ◌∙◌, arith, length-drop, length-take}
 use Rattle.std.proofs.lemmas.List.{drop-append-le, drop-take, take-append-le, take-take, length-take-le}
 use Rattle.bsc_text.specs.Lines.{line_in}

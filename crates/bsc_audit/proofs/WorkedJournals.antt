@@ -24,7 +24,7 @@ use Rattle.bsc_journal.proofs.WorkedPieces.{the_hub, a_joins, b_joins, a_sends, 
 
 -- ---- what the lines say
 
-hub_says : IsHubLine hub_line the_hub
+pub hub_says : IsHubLine hub_line the_hub
 unfolding script_on_literals uuid_on_literals
 hub_says = record { line = refl; words = refl }
 
@@ -64,7 +64,7 @@ sent_has = record {
   fits = tt;
 }
 
-early_has : HasLine 2 (a_sends 1)
+pub early_has : HasLine 2 (a_sends 1)
 early_has = record {
   place_short = refl;
   caller_short = refl;
@@ -76,15 +76,15 @@ early_has = record {
   fits = tt;
 }
 
-a_says : IsLineOf a_line 0 a_joins
+pub a_says : IsLineOf a_line 0 a_joins
 unfolding journals_on_literals script_on_literals
 a_says = record { line = refl; has = a_has }
 
-b_says : IsLineOf b_line 1 b_joins
+pub b_says : IsLineOf b_line 1 b_joins
 unfolding journals_on_literals script_on_literals
 b_says = record { line = refl; has = b_has }
 
-sent_says : IsLineOf sent_line 2 (a_sends 0)
+pub sent_says : IsLineOf sent_line 2 (a_sends 0)
 unfolding journals_on_literals script_on_literals
 sent_says = record { line = refl; has = sent_has }
 
@@ -103,11 +103,11 @@ journal_tells = record {
   lines = record { moves = (2, 3) ∷ []; below = swaps; is = refl };
 }
 
-joins_legal : Legal the_hub (a_joins ∷ b_joins ∷ [])
+pub joins_legal : Legal the_hub (a_joins ∷ b_joins ∷ [])
 unfolding history_on_literals
 joins_legal = record { lawful = (lawful refl refl refl refl, (lawful refl refl refl refl, tt)) }
 
-history_legal : Legal the_hub (a_joins ∷ b_joins ∷ a_sends 0 ∷ [])
+pub history_legal : Legal the_hub (a_joins ∷ b_joins ∷ a_sends 0 ∷ [])
 unfolding history_on_literals
 history_legal = record { lawful = (lawful refl refl refl refl, (lawful refl refl refl refl, (lawful refl refl refl refl, tt))) }
 
@@ -140,7 +140,7 @@ early_tells = record {
   lines = record { moves = (2, 3) ∷ []; below = swaps; is = refl };
 }
 
-early_illegal : Legal the_hub (a_joins ∷ b_joins ∷ a_sends 1 ∷ []) → ⊥
+pub early_illegal : Legal the_hub (a_joins ∷ b_joins ∷ a_sends 1 ∷ []) → ⊥
 unfolding history_on_literals
 early_illegal legal = let found = legal.lawful.1.1.0.found in cc
 
@@ -159,7 +159,7 @@ illegal = (
 
 -- ---- missing
 
-none_below_zero : {A : Type 0} (k : ℕ) → k < 0 → A
+pub none_below_zero : {A : Type 0} (k : ℕ) → k < 0 → A
 none_below_zero k h = let no : ⊥ = omega (arith, h) in absurd no
 
 missing : AuditsTo (lines (hub_line ∷ a_line ∷ sent_line ∷ [])) (Missing 1)
@@ -250,12 +250,12 @@ not_empty : (a b : List ℕ) → 0 < length a → [] ≡ a ++ b → ⊥
 not_empty [] b h e = omega (arith, h)
 not_empty (c ∷ a) b h e = cc
 
-no_entry : (place : ℕ) (e : Entry) → IsLineOf [] place e → ⊥
+pub no_entry : (place : ℕ) (e : Entry) → IsLineOf [] place e → ⊥
 unfolding entry_line
 no_entry place e l = not_empty (decimal place) _ (some_digits place l.has.place_short) l.line
 
 -- An empty line says nothing.
-says_nothing : (s : JournalRecord) → IsGood 0 (codes "\n") s → ⊥
+pub says_nothing : (s : JournalRecord) → IsGood 0 (codes "\n") s → ⊥
 unfolding script_on_literals
 says_nothing (Hub about) g = let line = g.says.line in cc
 says_nothing (AnEntry place e) g = no_entry place e g.says

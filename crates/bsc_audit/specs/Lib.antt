@@ -4,3 +4,6 @@ pub mod Taking
 pub mod Judging
 pub mod Explaining
 pub mod Places
+pub mod Together
+pub mod Pieces
+pub mod Merging

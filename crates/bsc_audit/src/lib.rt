@@ -10,6 +10,7 @@
 mod audit_end;
 mod auditing;
 mod cutting;
+mod files;
 mod heard;
 mod hearing;
 mod judging;
@@ -21,4 +22,5 @@ mod verdict;
 
 pub use audit_end::AuditEnd;
 pub use auditing::{audit, audit_explained};
+pub use files::{FilesEnd, MOST_ENTRIES, MemPieces, Pieces, audit_files};
 pub use verdict::Verdict;

@@ -17,3 +17,5 @@ mod WorkedTheorems
 mod WorkedCommands
 mod WorkedSpellings
 mod WorkedAnswers
+mod WorkedRules
+mod WorkedShowing

@@ -11,7 +11,7 @@ use Rattle.bsc_serve.specs.declared.parts.ServingParts.{ServingParts}
 use Rattle.bsc_serve.specs.Asking.{Asking, asking_by, look_at}
 use Rattle.bsc_serve.specs.Worlds.{Stock}
 use Rattle.bsc_hub_command.specs.declared.asked.HubAsked.{HubAsked}
-use Rattle.bsc_hub_command.specs.Served.{Door, HasFailed, door_by, stock_by, terms_in, world_by}
+use Rattle.bsc_hub_command.specs.Served.{Books, Door, HasFailed, LimitedTo, books_by, door_by, status_with, stock_by, terms_in, world_by}
 use Rattle.bsc_node_command.specs.Comes.{AcceptorWorld, acceptor_world, node_world}
 use Rattle.bsc_cli.specs.Words.{audit, check, hub, live_node, replay}
 use Rattle.bsc_commands.specs.declared.outside.Outside.{Outside}
@@ -107,10 +107,19 @@ asks_so = refl
 asks_otherwise : asking.asked ≡ 7 → ⊥
 asks_otherwise h = unlike 6 7 refl h
 
+abbrev a_book : Books
+a_book = record { begun = Some []; unbegun = 9; lost = Some (true ∷ []); limits = None }
+
+books : books_by {J = ℕ} (λ j. Some []) (λ j. j) (λ j. Some (true ∷ [])) (λ j. None) 9 ≡ a_book
+books = refl
+
+other_books : (books_by {J = ℕ} (λ j. Some []) (λ j. j) (λ j. Some (true ∷ [])) (λ j. None) 9).unbegun ≡ 8 → ⊥
+other_books h = unlike 9 8 refl h
+
 abbrev parts : ServingParts ℕ ℕ ℕ ℕ
 parts = record { acceptor = 7; clock = 0; spawner = 5; journals = 9 }
 
-world : world_by {A = ℕ} {C = ℕ} {P = ℕ} {J = ℕ} {L = ℕ} {N = ℕ} (λ a. a_door) (λ p. a_stock) (λ j. Some []) (λ j. j) parts (Some []) asking ≡ record {
+world : world_by {A = ℕ} {C = ℕ} {P = ℕ} {J = ℕ} {L = ℕ} {N = ℕ} (λ a. a_door) (λ p. a_stock) (λ j. a_book) parts (Some []) asking ≡ record {
   links = Some (7 ∷ []);
   came = Some [];
   waits = None;
@@ -123,13 +132,41 @@ world : world_by {A = ℕ} {C = ℕ} {P = ℕ} {J = ℕ} {L = ℕ} {N = ℕ} (λ
   unstarted = 5;
   begun = Some [];
   unbegun = 9;
+  lost = Some (true ∷ []);
+  limits = None;
   written = Some [];
   asking = asking;
 }
 world = refl
 
-other_world : (world_by {A = ℕ} {C = ℕ} {P = ℕ} {J = ℕ} {L = ℕ} {N = ℕ} (λ a. a_door) (λ p. a_stock) (λ j. Some []) (λ j. j) parts (Some []) asking).unbegun ≡ 8 → ⊥
+other_world : (world_by {A = ℕ} {C = ℕ} {P = ℕ} {J = ℕ} {L = ℕ} {N = ℕ} (λ a. a_door) (λ p. a_stock) (λ j. a_book) parts (Some []) asking).unbegun ≡ 8 → ⊥
 other_world h = unlike 9 8 refl h
+
+-- where lines of journals were lost, the status is 4 in place of 0, and another stays
+lines_lost : status_with true 0 ≡ 4
+lines_lost = refl
+
+lines_lost_too : status_with true 6 ≡ 6
+lines_lost_too = refl
+
+lines_kept : status_with false 0 ≡ 0
+lines_kept = refl
+
+lines_lost_well : status_with true 0 ≡ 0 → ⊥
+lines_lost_well h = unlike 4 0 refl h
+
+-- files are limited to the length that is asked for, and to none where none is
+limited : LimitedTo (Some 4096) (Some []) (Some (4096 ∷ []))
+limited = refl
+
+unlimited : LimitedTo None (Some []) (Some [])
+unlimited = refl
+
+limited_uncalled : LimitedTo (Some 4096) (Some []) (Some []) → ⊥
+limited_uncalled h = (let bad : ◌≡◌ {A = List ℕ} [] (4096 ∷ []) = h in cc)
+
+limited_unasked : LimitedTo None (Some []) (Some (4096 ∷ [])) → ⊥
+limited_unasked h = (let bad : ◌≡◌ {A = Option (List ℕ)} (Some (4096 ∷ [])) (Some []) = h in cc)
 
 failed : HasFailed {N = ℕ} (λ journal. journal) (Some 3)
 failed = (3, refl, unlike 3 0 refl)

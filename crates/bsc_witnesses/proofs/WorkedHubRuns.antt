@@ -26,7 +26,7 @@ use Rattle.bsc_settings.specs.Parts.{identity_of, limits_of}
 use Rattle.bsc_journal.specs.Saying.{IsHubLine, IsIdentity}
 use Rattle.bsc_hub_command.specs.declared.place.HubPlace.{HubPlace}
 use Rattle.bsc_hub_command.specs.HubLines.{hub_text}
-use Rattle.bsc_hub_command.specs.Served.{HubRuns, HubTelling, HubTerms, HubWorld, StopsAlone, telling}
+use Rattle.bsc_hub_command.specs.Served.{HubRuns, HubTelling, HubTerms, HubWorld, LimitedTo, StopsAlone, telling}
 use Rattle.bsc_witnesses.proofs.Pieces.{lawful}
 use Rattle.bsc_witnesses.proofs.Passes.{view, knowing, is_pass, consistent}
 
@@ -90,9 +90,16 @@ outside unbegun = record {
   unstarted = 0;
   begun = None;
   unbegun = unbegun;
+  lost = Some [];
+  limits = None;
   written = Some [];
   asking = record { looks = Some []; asked = 0; endings = Some [] };
 }
+
+-- no limit of files is told
+untold : (limit : Option ℕ) → LimitedTo limit None None
+untold None = refl
+untold (Some octets) = tt
 
 module _ (hub : Arc Hub Global) (asked : HubTerms) (is : about_of (arc_value hub) ≡ the_hub)
     (settles : the_hub ≡ record { hub = identity_of asked.settings; limits = limits_of asked.settings }) (p : Pass) where
@@ -143,10 +150,11 @@ module _ (hub : Arc Hub Global) (asked : HubTerms) (is : about_of (arc_value hub
     about = is ∙ settles;
     said = subst (λ (a : About). IsHubLine (hub_text a) a) (sym is) hub_says;
     identity = subst (λ (a : About). IsIdentity a.hub) (sym is) hub_is;
+    limited = untold asked.limit;
     went = inl (record {
       none = refl;
       begun = tt;
-      untouched = record { links = refl; came = refl; waits = refl; quiets = refl; port = refl; faults = refl; jobs = refl; given_back = refl; out = refl; unstarted = refl; asking = refl };
+      untouched = record { links = refl; came = refl; waits = refl; quiets = refl; port = refl; faults = refl; jobs = refl; given_back = refl; out = refl; unstarted = refl; lost = refl; asking = refl };
       stops = alone;
       says = inl (refl, inl (lit< tt), refl);
     });

@@ -1,9 +1,10 @@
 //! A journal of every kind of call and of reply, as `examples/everycall.journal` has it: its lines are read and written again,
 //! and its octets come in pieces.
-use bsc_audit::{AuditEnd, audit};
+use bsc_audit::{AuditEnd, FilesEnd, MemPieces, audit, audit_files};
 use bsc_journal::{JournalRecord, entry_line, read_said};
-use bsc_octets::NoMemory;
+use bsc_octets::{NoMemory, Octets};
 use bsc_outside::MemSource;
+use std::alloc::Global;
 use std::test::*;
 
 /// Each kind of call and of reply, from seven callers, and a line of what was denied.
@@ -71,4 +72,65 @@ fn octets_come_in_pieces(rt: HostRuntime) {
         let mut source = MemSource::new(EVERY_CALL.as_bytes(), &failing);
         assert!(rt; audit(rt.alloc(), &mut source) == AuditEnd::ReadFault);
     }
+}
+
+/// The lines of one caller of that journal, whose number has one digit. The hub line, and what was denied, are caller 0's. The last
+/// line has no end.
+fn lines_by(alloc: Global, caller: &str) -> Result<Octets, NoMemory> {
+    let mut octets = Vec::new(alloc);
+    for line in EVERY_CALL.lines() {
+        let own = match line.split_once(' ') {
+            Some((first, rest)) => {
+                if first == "hub" || first == "deny" {
+                    caller == "0"
+                } else {
+                    rest.starts_with(caller)
+                }
+            }
+            None => false,
+        };
+        if own {
+            if !octets.is_empty() {
+                octets.extend_from_slice(b"\n")?;
+            }
+            octets.extend_from_slice(line.as_bytes())?;
+        }
+    }
+    Ok(Octets::from_vec(octets))
+}
+
+/// A file for each of the seven callers.
+fn seven_files(alloc: Global) -> Result<Vec<Octets>, NoMemory> {
+    let mut files = Vec::new(alloc);
+    for caller in ["0", "1", "2", "3", "4", "5", "6"] {
+        files.push(lines_by(alloc, caller)?)?;
+    }
+    Ok(files)
+}
+
+#[test]
+fn files_are_merged(rt: HostRuntime) -> Result<(), NoMemory> {
+    let whole = FilesEnd::Legal {
+        entries: 23,
+        files: 7,
+    };
+    for most in [1, 7, 5000] {
+        let mut files = MemPieces::new(seven_files(rt.alloc())?, most, &[]);
+        assert!(rt;
+            audit_files(rt.alloc(), &mut files, 7) == whole,
+            "by {most}"
+        );
+    }
+    // Without the last file a place is missing, and without the first there is no hub line.
+    let mut files = MemPieces::new(seven_files(rt.alloc())?, 5000, &[]);
+    assert!(rt; audit_files(rt.alloc(), &mut files, 6) == FilesEnd::Missing { place: 17 });
+    let mut files = MemPieces::new(Vec::new(rt.alloc()), 5000, &[]);
+    assert!(rt; audit_files(rt.alloc(), &mut files, 0) == FilesEnd::Hubs { lines: 0 });
+    // A file that isn't there can't be read, nor can the first where that read fails.
+    let mut files = MemPieces::new(seven_files(rt.alloc())?, 5000, &[]);
+    assert!(rt; audit_files(rt.alloc(), &mut files, 8) == FilesEnd::ReadFault { file: 7 });
+    let failing = [1_u64];
+    let mut files = MemPieces::new(seven_files(rt.alloc())?, 5000, &failing);
+    assert!(rt; audit_files(rt.alloc(), &mut files, 7) == FilesEnd::ReadFault { file: 0 });
+    Ok(())
 }

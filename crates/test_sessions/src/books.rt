@@ -58,6 +58,12 @@ impl Journals<KeptJournal> for KeptJournals {
             faults: 0,
         })
     }
+
+    fn count_lost(&mut self) -> bool {
+        false
+    }
+
+    fn set_limit(&mut self, _octets: u64) {}
 }
 
 /// A clock that stands still.

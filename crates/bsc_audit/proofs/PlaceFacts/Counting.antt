@@ -1,5 +1,5 @@
 -- How often a place stands among some.
--- It serves clauses of functions of `auditing`, `judging` and `places`.
+-- It serves clauses of functions of `auditing`, `files`, `judging` and `places`.
 use Rattle.std.proofs.Common.{◌≡◌, ℕ, ◌+◌, ◌<◌, ◌≤◌, ◌==◌, Bool, true, false, ◌||◌, cond, List, [], ◌∷◌, refl, ap, ◌∙◌, arith}
 use Rattle.std.specs.List.{AllByRecursion, count_by}
 use Rattle.std.proofs.lemmas.Bool.{eqb-false, eqb-true, ne_eqb, eq-eqb}

@@ -1,5 +1,5 @@
 -- The first place that some places don't go on with is the least that is missing.
--- It serves the clauses of `least_missing`.
+-- It serves the clauses of `judge_files` and `least_missing`.
 use Rattle.std.proofs.Common.{◌≡◌, ℕ, ◌+◌, ◌<◌, ◌≤◌, ◌==◌, nat_eq, nat_lt, Bool, true, false, if◌then◌else◌, List, [], ◌∷◌, length, map, Option, Some, None, MatchOption, refl, subst, ⊎_elim, arith}
 use Rattle.std.specs.Prelude.{IsTrue}
 use Rattle.std.specs.List.{AllByRecursion, IsDistinct, list_any, range_with_len}
@@ -95,6 +95,10 @@ from_zero (x ∷ xs) = (omega arith, from_zero xs)
 told : (o : Option ℕ) (xs : List ℕ) → IsDistinct nat_eq xs → Walked 0 o xs → MatchOption o (xs ≡ range_with_len 0 (length xs)) (λ p. IsLeastMissing p xs)
 told None xs once w = w
 told (Some p) xs once w = record { once = once; missing = w.missing; below = w.below; least = λ k less. w.least k (omega arith) less }
+
+-- places that rise and stand once, of which the first that isn't gone on with is the least that is missing
+pub missing_of : (xs : List ℕ) → Rise xs → IsDistinct nat_eq xs → MatchOption (skipped 0 xs) (xs ≡ range_with_len 0 (length xs)) (λ p. IsLeastMissing p xs)
+missing_of xs up once = told (skipped 0 xs) xs once (walk 0 xs (from_zero xs) (climb xs up once))
 
 pub told_missing : (xs : List Spot) → IsNonDecreasingBy place_of xs → IsDistinct nat_eq (map place_of xs) →
     MatchOption (skipped 0 (map place_of xs)) (map place_of xs ≡ range_with_len 0 (length xs)) (λ p. IsLeastMissing p (map place_of xs))

@@ -1,5 +1,5 @@
 -- Places that are all those from one on, so many of them.
--- It serves the clauses of `audit_explained`.
+-- It serves clauses of functions of `auditing` and `files`.
 use Rattle.std.proofs.Common.{◌≡◌, ℕ, zero, suc, ◌+◌, ◌<◌, ◌≤◌, nat_lt, Bool, true, false, ◌||◌, List, [], ◌∷◌, refl, ◌∙◌, ⊎_elim, arith}
 use Rattle.std.specs.List.{list_any, range_with_len}
 use Rattle.std.proofs.lemmas.Bool.{cases_eq, ltb-true}

@@ -1,5 +1,5 @@
 -- Places in another order are told the same.
--- It serves the clauses of `judge`.
+-- It serves the clauses of `audit_files`, `judge_files` and `judge`.
 use Rattle.std.proofs.Common.{◌≡◌, ℕ, ◌==◌, nat_eq, nat_lt, cond, List, ◌∙◌, arith}
 use Rattle.std.specs.Cmp.{partial_equiv_from_equiv, nat_eq_equiv}
 use Rattle.std.specs.List.Sorted.{IsPermutation}

@@ -1,5 +1,5 @@
 -- Places that rise, each with those behind it.
--- It serves the clauses of `least_missing` and `least_twice`.
+-- It serves clauses of functions of `files` and `places`.
 use Rattle.std.proofs.Common.{ℕ, suc, ◌<◌, ◌≤◌, List, [], ◌∷◌, length, get_or, map, arith}
 use Rattle.std.specs.Prelude.{⊤}
 use Rattle.std.specs.List.{AllByRecursion}

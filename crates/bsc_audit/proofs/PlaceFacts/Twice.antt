@@ -1,5 +1,5 @@
 -- The first place that follows itself is the least that stands twice.
--- It serves the clauses of `least_twice`.
+-- It serves the clauses of `judge_files` and `least_twice`.
 use Rattle.std.proofs.Common.{◌≡◌, ℕ, ◌<◌, ◌≤◌, ◌==◌, nat_eq, Bool, true, false, if◌then◌else◌, List, [], ◌∷◌, map, Option, Some, None, MatchOption, refl, ap, sym, ⊎_elim, arith}
 use Rattle.std.specs.List.{AllByRecursion, IsDistinct}
 use Rattle.std.specs.List.Sorted.{IsNonDecreasingBy}
@@ -73,6 +73,11 @@ step false x y ys e r more =
 after : (x : ℕ) (xs : List ℕ) → Rise (x ∷ xs) → Told (repeated_after x xs) (x ∷ xs)
 after x [] r = alone x
 after x (y ∷ ys) r = step (y == x) x y ys refl r (after y ys r.1)
+
+-- places that rise, of which the first that follows itself is the least that stands twice
+pub twice_of : (xs : List ℕ) → Rise xs → Told (repeated xs) xs
+twice_of [] up = no_places
+twice_of (x ∷ xs) up = after x xs up
 
 pub told_twice : (xs : List Spot) → IsNonDecreasingBy place_of xs → Told (repeated (map place_of xs)) (map place_of xs)
 told_twice [] up = no_places

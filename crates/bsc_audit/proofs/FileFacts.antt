@@ -1,0 +1,12 @@
+pub mod Shuffled
+pub mod Rises
+pub mod SaidLines
+pub mod PieceLines
+pub mod Summed
+pub mod Checked
+pub mod Weighed
+pub mod Heading
+pub mod Least
+pub mod MergedAll
+pub mod FilesCome
+pub mod BelievedFiles
