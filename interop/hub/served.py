@@ -110,7 +110,8 @@ class Hub:
 
     def journals(self):
         """The files of its journals, by their numbers."""
-        files = {int(it.suffix[1:]): it for it in self.prefix.parent.glob(f"{self.prefix.name}.*") if it.suffix[1:].isdigit()}
+        behind = len(self.prefix.name) + 1
+        files = {int(it.name[behind:]): it for it in self.prefix.parent.glob(f"{self.prefix.name}.*") if it.name[behind:].isdigit()}
         return dict(sorted(files.items()))
 
     def journal(self, number):

@@ -446,14 +446,28 @@ async def prefixes(folder):
 
 # Links that never ask.
 
+async def shake_hands(port):
+    """The handshake of a stream, which goes behind it."""
+    reader, writer = await asyncio.open_connection("127.0.0.1", port)
+    writer.write(b"GET / HTTP/1.1\r\nHost: 127.0.0.1\r\nUpgrade: websocket\r\nConnection: Upgrade\r\n"
+                 b"Sec-WebSocket-Key: dGhlIHNhbXBsZSBub25jZQ==\r\nSec-WebSocket-Version: 13\r\n"
+                 b"Sec-WebSocket-Protocol: hub.bsc.bacnet.org\r\n\r\n")
+    head = await reader.readuntil(b"\r\n\r\n")
+    same(head.partition(b"\r\n")[0], b"HTTP/1.1 101 Switching Protocols", "the answer to a handshake")
+    writer.close()
+
+
 async def silent(folder):
     """Links whose peers never ask to join leave no file; and who asks behind them has one, with its number."""
-    links = 100
+    clients, streams = 100, 10_000
+    links = clients + streams
     async with house(folder, "--sessions", links + 1, prefix=folder / "j") as it:
-        for _ in range(links):
+        for _ in range(clients):
             guest = await it.opened("python", somebody("A"))
             await guest.client.close()
             await guest.closes(1000, "", "the reply to a close")
+        for _ in range(streams):
+            await shake_hands(it.hub.port)
         same(list(it.hub.journals()), [0], "the journals of links that never asked")
         last = await it.joined("node", somebody("A"))
         same(list(it.hub.journals()), [0, links + 1], "the journals with that of who asked")
@@ -504,7 +518,7 @@ async def limited(folder):
         await again.has(1)
         await again.leaves()
         await b.leaves()
-        same(await it.hub.ended(), 0, "the status of a hub of whose sessions one lost a line")
+        same(await it.hub.ended(), 4, "the status of a hub of whose sessions one lost a line")
         counts = counts_of(it.hub.told())
         same((counts["joined"], counts["replaced"], counts["unicasts"]), (3, 0, given + 1), "its counts")
         # Whole lines, and the first part of the one that was lost.
@@ -522,6 +536,34 @@ async def limited(folder):
         there = {entry.place for entry in entries_of(rest)}
         same(sorted(set(range(max(there))) - there), [place, place + 1], "places that are missing: the lost line, and the leave")
     return f"a journal of {most} octets that can't grow ends its session alone"
+
+
+async def parted(folder):
+    """The files of journals are limited: a journal goes on in another file before one is longer. Together they are legal."""
+    most, messages = 4096, 160
+    async with house(folder, "--sessions", 2, "--journal-octets", most, prefix=folder / "j") as it:
+        a, b = await it.joined("python", somebody("A")), await it.joined("node", somebody("B"))
+        for number in range(messages):
+            await a.give(one_to(b.who, number))
+            await b.has(number + 1)
+        await a.leaves()
+        await b.leaves()
+        same(await it.hub.ended(), 0, "the status of a hub whose files are limited")
+    files = {file.name: file.read_bytes() for file in folder.glob("j.*")}
+    of_a = sorted(name for name in files if name.startswith("j.1"))
+    same(of_a[:3], ["j.1", "j.1.1", "j.1.2"], "the files of who sent")
+    same(set(files) - set(of_a), {"j.0", "j.2"}, "the other files")
+    for name, octets in files.items():
+        if len(octets) > most or not octets.endswith(b"\n"):
+            raise Failed(f"{name} has {len(octets)} octets, and may have {most}, or doesn't end with a line")
+    # A hub that runs: a line would take each file but the last past the limit.
+    lines = [line + b"\n" for name in of_a for line in files[name].split(b"\n")[:-1]]
+    same(b"".join(files[name] for name in of_a), b"".join(lines), "the lines of who sent")
+    for name, newer in zip(of_a, of_a[1:]):
+        if len(files[name]) + files[newer].index(b"\n") + 1 <= most:
+            raise Failed(f"{newer} begins with a line for which {name} had room")
+    same(audit(b"".join(files.values())), (0, f"legal {messages + 5}"), "the audit of all files")
+    return f"{len(files)} files of {most} octets at most are legal together"
 
 
 @contextmanager
@@ -597,7 +639,7 @@ def fill_up(file):
 
 async def scenes(folder, messages, names):
     told = []
-    for scene, *words in ((course, messages), (kills,), (prefixes,), (silent,), (limited,), (disk_gets_full,)):
+    for scene, *words in ((course, messages), (kills,), (prefixes,), (silent,), (limited,), (parted,), (disk_gets_full,)):
         if names and scene.__name__ not in names:
             continue
         place = folder / scene.__name__
