@@ -336,7 +336,7 @@ async def a_lost_denial(folder):
         await again.has(1)
         for guest in (again, b):
             await guest.leaves()
-        same(await it.hub.ended(), 0, "the status of a hub of whose sessions one lost a denial")
+        same(await it.hub.ended(), 4, "the status of a hub of whose sessions one lost a denial")
         # Denials are no entries: the leave alone is missing, and the lost line has no place.
         octets = b"".join(it.hub.journal(number)[: it.hub.journal(number).rfind(b"\n") + 1] for number in it.hub.journals())
         same(audit(octets), (10, "missing 2"), "the audit of journals that lack a leave")
